@@ -27,6 +27,12 @@ fn wide16(x: u16) -> usize
     x as usize
 }
 
+fn number(x: u16) -> u64
+    ensures { λ r. ⌜ r ≡ x ⌝ }
+{
+    x as u64
+}
+
 fn least(a: usize, b: usize) -> usize
     ensures { λ r. ⌜ r ≡ min a b ⌝ }
 {
@@ -46,9 +52,9 @@ fn compare_units(table: &[u16], a: u16, b: u16) -> Ordering
     requires { ⌜ length (now table) ≡ tableUnits ⌝ }
     ensures { λ r. ⌜ r ≡ order (upcase (now (table .entry)) a) (upcase (now (table .entry)) b) ⌝ }
 {
-    let x = u16_to_uppercase(table, a) as u64;
-    let y = u16_to_uppercase(table, b) as u64;
-    ordering::compare(x, y)
+    let x = u16_to_uppercase(table, a);
+    let y = u16_to_uppercase(table, b);
+    ordering::compare(number(x), number(y))
 }
 
 fn unit_at(s: &[u8], i: usize) -> u16

@@ -1,0 +1,109 @@
+-- A row for each public function: any two results that its contract admits coincide, every part of them.
+-- The rows speak of the contracts as the sources state them, and all go by one law.
+use mathlib.Core.Path.{_≡_, sym, _∙_}
+use denote.Ref.{now}
+use Rattle.claims.specs.Coincide.{Coincide}
+use Rattle.le.proofs.le16.Reads as le16
+use Rattle.le.proofs.le32.Reads as le32
+use Rattle.le.proofs.le48.Reads as le48
+use Rattle.le.proofs.le64.Reads as le64
+use Rattle.le.proofs.signed_le64.Reads as signed-le64
+use Rattle.ordering.proofs.compare.Reads as compare
+use Rattle.refusal.proofs.Refusal.number.Reads as number
+use Rattle.upcase_table.proofs.upcase_cmp.Reads as upcase-cmp
+use Rattle.upcase_table.proofs.upcase_cmp_keys.Reads as upcase-cmp-keys
+use Rattle.file_reference.proofs.FileReference.from_bytes.Reads as from-bytes
+use Rattle.file_reference.proofs.FileReference.file_record_number.Reads as file-record-number
+use Rattle.file_reference.proofs.FileReference.sequence_number.Reads as sequence-number
+use Rattle.index_allocation.proofs.block_number.Reads as block-number
+use Rattle.index_entry.proofs.entry_at.Reads as entry-at
+use Rattle.index_entry.proofs.entry_bytes.Reads as entry-bytes
+use Rattle.index_entry.proofs.index_entry_length.Reads as index-entry-length
+use Rattle.index_entry.proofs.key_length.Reads as key-length
+use Rattle.index_entry.proofs.flags.Reads as flags
+use Rattle.index_entry.proofs.has_subnode.Reads as has-subnode
+use Rattle.index_entry.proofs.is_last_entry.Reads as is-last-entry
+use Rattle.index_entry.proofs.key.Reads as key
+use Rattle.index_entry.proofs.key_bytes.Reads as key-bytes
+use Rattle.index_entry.proofs.subnode_vcn.Reads as subnode-vcn
+use Rattle.file_name.proofs.read_file_name.Reads as read-file-name
+use Rattle.file_name.proofs.name.Reads as name
+
+-- two that equal one definition are equal
+same : {A : Type 0} {x y d : A} → x ≡ d → y ≡ d → x ≡ y
+same p q = p ∙ sym q
+
+pub one-le16 : Coincide le16.Post (λ l x. x)
+one-le16 l a x y s t = same
+
+pub one-le32 : Coincide le32.Post (λ l x. x)
+one-le32 l a x y s t = same
+
+pub one-le48 : Coincide le48.Post (λ l x. x)
+one-le48 l a x y s t = same
+
+pub one-le64 : Coincide le64.Post (λ l x. x)
+one-le64 l a x y s t = same
+
+pub one-signed-le64 : Coincide signed-le64.Post (λ l x. x)
+one-signed-le64 l a x y s t = same
+
+pub one-compare : Coincide compare.Post (λ l x. x)
+one-compare l a x y s t = same
+
+pub one-number : Coincide number.Post (λ l x. x)
+one-number l a x y s t = same
+
+pub one-upcase-cmp : Coincide upcase-cmp.Post (λ l x. x)
+one-upcase-cmp l a x y s t = same
+
+pub one-upcase-cmp-keys : Coincide upcase-cmp-keys.Post (λ l x. x)
+one-upcase-cmp-keys l a x y s t = same
+
+pub one-from-bytes : Coincide from-bytes.Post (λ l x. x)
+one-from-bytes l a x y s t = same
+
+pub one-file-record-number : Coincide file-record-number.Post (λ l x. x)
+one-file-record-number l a x y s t = same
+
+pub one-sequence-number : Coincide sequence-number.Post (λ l x. x)
+one-sequence-number l a x y s t = same
+
+pub one-block-number : Coincide block-number.Post (λ l x. x)
+one-block-number l a x y s t = same
+
+pub one-entry-at : Coincide entry-at.Post (λ l x. x)
+one-entry-at l a x y s t = same
+
+pub one-entry-bytes : Coincide entry-bytes.Post (λ l x. now x)
+one-entry-bytes l a x y s t = same
+
+pub one-index-entry-length : Coincide index-entry-length.Post (λ l x. x)
+one-index-entry-length l a x y s t = same
+
+pub one-key-length : Coincide key-length.Post (λ l x. x)
+one-key-length l a x y s t = same
+
+pub one-flags : Coincide flags.Post (λ l x. x)
+one-flags l a x y s t = same
+
+pub one-has-subnode : Coincide has-subnode.Post (λ l x. x)
+one-has-subnode l a x y s t = same
+
+pub one-is-last-entry : Coincide is-last-entry.Post (λ l x. x)
+one-is-last-entry l a x y s t = same
+
+pub one-key : Coincide key.Post (λ l x. x)
+one-key l a x y s t = same
+
+pub one-key-bytes : Coincide key-bytes.Post (λ l x. now x)
+one-key-bytes l a x y s t = same
+
+pub one-subnode-vcn : Coincide subnode-vcn.Post (λ l x. x)
+one-subnode-vcn l a x y s t = same
+
+pub one-read-file-name : Coincide read-file-name.Post (λ l x. x)
+one-read-file-name l a x y s t = same
+
+pub one-name : Coincide name.Post (λ l x. now x)
+one-name l a x y s t = same
