@@ -31,7 +31,9 @@ part-result-start : tie.Need-part-result-start
 part-result-start c = search needs
 
 part-result-end : tie.Need-part-result-end
-part-result-end c = rw (c .wide .ensures .0) (within (now (c .before .before .before .before .before .before .args .key)) _ _ (sym (c .before .before .before .before .read-file-name .ensures) ∙ c .before .before .units .given .1))
+part-result-end c =
+    rw (c .wide .ensures .0) (within (now (c .before .before .before .before .before .before .args .key)) _ _
+    (sym (c .before .before .before .before .read-file-name .ensures) ∙ c .before .before .units .given .1))
 
 enum-told : tie.Need-enum-told
 enum-told c = search needs
@@ -41,7 +43,13 @@ slice-aggregate-result c = search needs
 
 returns : tie.Need-returns
 unfolding nameOf
-returns c = rw (c .before .wide .ensures .0, ← c .before .before .before .before .before .read-file-name .ensures, c .before .before .before .units .given .1, add-sub-cancel-left)
+returns c =
+    rw (
+      c .before .wide .ensures .0,
+      ← c .before .before .before .before .before .read-file-name .ensures,
+      c .before .before .before .units .given .1,
+      add-sub-cancel-left,
+    )
 
 returns-2 : tie.Need-returns-2
 unfolding nameOf

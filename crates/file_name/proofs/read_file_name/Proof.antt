@@ -31,11 +31,23 @@ add-if3 c = search needs
 
 returns-3 : tie.Need-returns-3
 unfolding fileNameOf
-returns-3 c = rw (← c .before .wide .ensures .0, le-ltb _ _ (c .before .before .before .before .before .if1 .left), le-ltb _ _ (c .before .before .if2 .left), lt-ltb _ _ (c .if3 .taken))
+returns-3 c =
+    rw (
+      ← c .before .wide .ensures .0,
+      le-ltb _ _ (c .before .before .before .before .before .if1 .left),
+      le-ltb _ _ (c .before .before .if2 .left),
+      lt-ltb _ _ (c .if3 .taken),
+    )
 
 returns-4 : tie.Need-returns-4
 unfolding fileNameOf
-returns-4 c = rw (← c .before .wide .ensures .0, le-ltb _ _ (c .before .before .before .before .before .if1 .left), le-ltb _ _ (c .before .before .if2 .left), le-ltb _ _ (c .if3 .left))
+returns-4 c =
+    rw (
+      ← c .before .wide .ensures .0,
+      le-ltb _ _ (c .before .before .before .before .before .if1 .left),
+      le-ltb _ _ (c .before .before .if2 .left),
+      le-ltb _ _ (c .if3 .left),
+    )
 
 pub read-file-name-spec : {M : Type 1} → statement M
 read-file-name-spec =

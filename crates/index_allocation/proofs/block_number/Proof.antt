@@ -10,10 +10,12 @@ returns : tie.Need-returns
 returns c = negative (c .before .args .vcn) (rw (toZ-ofZ {w = w64} (c .before .fits .vcn)) at (c .if1 .taken))
 
 cast-t4 : tie.Need-cast-t4
-cast-t4 c = rw (toZ-ofZ {w = w64} (c .before .fits .vcn)) (casts (c .before .args .vcn) (c .before .fits .vcn) (rw (toZ-ofZ {w = w64} (c .before .fits .vcn)) at (c .if1 .left)))
+cast-t4 c = rw (toZ-ofZ {w = w64} (c .before .fits .vcn)) (casts (c .before .args .vcn) (c .before .fits .vcn) (rw (toZ-ofZ {w =
+    w64} (c .before .fits .vcn)) at (c .if1 .left)))
 
 returns-2 : tie.Need-returns-2
-returns-2 c = rw (toZ-ofZ {w = w64} (c .before .fits .vcn)) (plain (c .before .args .vcn) (rw (toZ-ofZ {w = w64} (c .before .fits .vcn)) at (c .if1 .left)))
+returns-2 c = rw (toZ-ofZ {w = w64} (c .before .fits .vcn)) (plain (c .before .args .vcn) (rw (toZ-ofZ {w =
+    w64} (c .before .fits .vcn)) at (c .if1 .left)))
 
 pub block-number-spec : {M : Type 1} → statement M
 block-number-spec = tie.close (tie.spec returns cast-t4 returns-2)

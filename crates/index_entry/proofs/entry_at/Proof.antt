@@ -26,17 +26,44 @@ wide-requires c κs = search needs
 
 returns-2 : tie.Need-returns-2
 unfolding entryAt
-returns-2 c = rw (← c .before .before .before .before .remaining .ensures, ← c .before .before .le16 .ensures, ← c .before .wide .ensures .0, le-ltb _ _ (c .before .before .before .if1 .left), lt-ltb _ _ (c .if2 .taken))
+returns-2 c =
+    rw (
+      ← c .before .before .before .before .remaining .ensures,
+      ← c .before .before .le16 .ensures,
+      ← c .before .wide .ensures .0,
+      le-ltb _ _
+          (c .before .before .before .if1 .left),
+      lt-ltb _ _ (c .if2 .taken),
+    )
 
 returns-3 : tie.Need-returns-3
 unfolding entryAt
-returns-3 c = rw (← c .before .before .before .before .before .remaining .ensures, ← c .before .before .before .le16 .ensures, ← c .before .before .wide .ensures .0, le-ltb _ _ (c .before .before .before .before .if1 .left), le-ltb _ _ (c .before .if2 .left), lt-ltb _ _ (c .if3 .taken))
+returns-3 c =
+    rw (
+      ← c .before .before .before .before .before .remaining .ensures,
+      ← c .before .before .before .le16 .ensures,
+      ← c .before .before .wide .ensures .0,
+      le-ltb _ _ (c .before .before .before .before .if1 .left),
+      le-ltb _ _ (c .before .if2 .left),
+      lt-ltb _ _
+          (c .if3 .taken),
+    )
 
 returns-4 : tie.Need-returns-4
 unfolding entryAt
 returns-4 c =
     let n = rw (c .before .before .before .before .before .remaining .ensures) at (c .if3 .left) in
-    rw (← c .before .before .before .before .before .remaining .ensures, ← c .before .before .before .le16 .ensures, ← c .before .before .wide .ensures .0, le-ltb _ _ (c .before .before .before .before .if1 .left), le-ltb _ _ (c .before .if2 .left), le-ltb _ _ (c .if3 .left), part-length (now (c .before .before .before .before .before .before .before .args .node)) (c .before .before .before .before .before .before .before .args .at) (c .before .before .wide .result) n)
+    rw (
+      ← c .before .before .before .before .before .remaining .ensures,
+      ← c .before .before .before .le16 .ensures,
+      ← c .before .before .wide .ensures .0,
+      le-ltb _ _ (c .before .before .before .before .if1 .left),
+      le-ltb _ _ (c .before .if2 .left),
+      le-ltb _ _
+          (c .if3 .left),
+      part-length (now (c .before .before .before .before .before .before .before .args .node))
+          (c .before .before .before .before .before .before .before .args .at) (c .before .before .wide .result) n,
+    )
 
 pub entry-at-spec : {M : Type 1} → statement M
 entry-at-spec =

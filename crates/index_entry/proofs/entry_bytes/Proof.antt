@@ -17,7 +17,8 @@ enum-known-length c = search needs
 
 add-end : tie.Need-add-end
 add-end c =
-    let p = entry-part (now (c .before .before .before .before .before .args .node)) (c .before .before .before .before .before .args .at) (c .before .length .given .0 .0) (sym (c .before .before .before .entry-at .ensures) ∙ c .before .length .given .1) in
+    let p = entry-part (now (c .before .before .before .before .before .args .node)) (c .before .before .before .before .before .args .at)
+    (c .before .length .given .0 .0) (sym (c .before .before .before .entry-at .ensures) ∙ c .before .length .given .1) in
     search needs
 
 sub-result : tie.Need-sub-result
@@ -27,7 +28,9 @@ part-result-start : tie.Need-part-result-start
 part-result-start c = search needs
 
 part-result-end : tie.Need-part-result-end
-part-result-end c = entry-part (now (c .before .before .before .before .before .args .node)) (c .before .before .before .before .before .args .at) (c .before .length .given .0 .0) (sym (c .before .before .before .entry-at .ensures) ∙ c .before .length .given .1) .within
+part-result-end c =
+    entry-part (now (c .before .before .before .before .before .args .node)) (c .before .before .before .before .before .args .at)
+    (c .before .length .given .0 .0) (sym (c .before .before .before .entry-at .ensures) ∙ c .before .length .given .1) .within
 
 enum-told : tie.Need-enum-told
 enum-told c = search needs
@@ -36,10 +39,15 @@ slice-aggregate-result : tie.Need-slice-aggregate-result
 slice-aggregate-result c = search needs
 
 returns : tie.Need-returns
-returns c = rw (add-sub-cancel-left) (entry-part (now (c .before .before .before .before .before .before .args .node)) (c .before .before .before .before .before .before .args .at) (c .before .before .length .given .0 .0) (sym (c .before .before .before .before .entry-at .ensures) ∙ c .before .before .length .given .1) .is-part)
+returns c =
+    rw (add-sub-cancel-left) (entry-part (now (c .before .before .before .before .before .before .args .node))
+    (c .before .before .before .before .before .before .args .at) (c .before .before .length .given .0 .0)
+    (sym (c .before .before .before .before .entry-at .ensures) ∙ c .before .before .length .given .1) .is-part)
 
 returns-2 : tie.Need-returns-2
-returns-2 c = entry-none (entryAt (now (c .before .before .before .before .before .args .node)) (c .before .before .before .before .before .args .at)) _ (sym (c .before .before .before .entry-at .ensures) ∙ c .before .enum-told .given .1)
+returns-2 c =
+    entry-none (entryAt (now (c .before .before .before .before .before .args .node)) (c .before .before .before .before .before .args .at)) _
+    (sym (c .before .before .before .entry-at .ensures) ∙ c .before .enum-told .given .1)
 
 pub entry-bytes-spec : {M : Type 1} → statement M
 entry-bytes-spec =

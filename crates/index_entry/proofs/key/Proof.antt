@@ -21,18 +21,44 @@ is-last-entry-requires c κs = search needs
 
 returns-2 : tie.Need-returns-2
 unfolding keyOf
-returns-2 c = rw (← c .before .before .before .before .key-length .ensures, ← c .before .before .before .wide .ensures .0, ne-eqb _ _ (c .before .before .if1 .left), ← c .before .is-last-entry .ensures, c .if2 .taken)
+returns-2 c =
+    rw (
+      ← c .before .before .before .before .key-length .ensures,
+      ← c .before .before .before .wide .ensures .0,
+      ne-eqb _ _
+          (c .before .before .if1 .left),
+      ← c .before .is-last-entry .ensures,
+      c .if2 .taken,
+    )
 
 add-if3 : tie.Need-add-if3
 add-if3 c = search needs
 
 returns-3 : tie.Need-returns-3
 unfolding keyOf
-returns-3 c = rw (← c .before .before .before .before .before .key-length .ensures, ← c .before .before .before .before .wide .ensures .0, ne-eqb _ _ (c .before .before .before .if1 .left), ← c .before .before .is-last-entry .ensures, c .before .if2 .left, lt-ltb _ _ (c .if3 .taken))
+returns-3 c =
+    rw (
+      ← c .before .before .before .before .before .key-length .ensures,
+      ← c .before .before .before .before .wide .ensures .0,
+      ne-eqb _ _
+          (c .before .before .before .if1 .left),
+      ← c .before .before .is-last-entry .ensures,
+      c .before .if2 .left,
+      lt-ltb _ _ (c .if3 .taken),
+    )
 
 returns-4 : tie.Need-returns-4
 unfolding keyOf
-returns-4 c = rw (← c .before .before .before .before .before .key-length .ensures, ← c .before .before .before .before .wide .ensures .0, ne-eqb _ _ (c .before .before .before .if1 .left), ← c .before .before .is-last-entry .ensures, c .before .if2 .left, le-ltb _ _ (c .if3 .left))
+returns-4 c =
+    rw (
+      ← c .before .before .before .before .before .key-length .ensures,
+      ← c .before .before .before .before .wide .ensures .0,
+      ne-eqb _ _
+          (c .before .before .before .if1 .left),
+      ← c .before .before .is-last-entry .ensures,
+      c .before .if2 .left,
+      le-ltb _ _ (c .if3 .left),
+    )
 
 pub key-spec : {M : Type 1} → statement M
 key-spec =

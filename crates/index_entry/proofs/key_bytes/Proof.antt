@@ -31,7 +31,10 @@ part-result-start : tie.Need-part-result-start
 part-result-start c = search needs
 
 part-result-end : tie.Need-part-result-end
-part-result-end c = rw (c .wide .ensures .0, c .before .key-length .ensures) (key-part (now (c .before .before .before .before .before .before .args .entry)) (sym (c .before .before .before .before .key .ensures) ∙ c .before .before .enum-told .given .1) .within)
+part-result-end c =
+    rw (c .wide .ensures .0, c .before .key-length .ensures)
+    (key-part (now (c .before .before .before .before .before .before .args .entry))
+    (sym (c .before .before .before .before .key .ensures) ∙ c .before .before .enum-told .given .1) .within)
 
 enum-told-2 : tie.Need-enum-told-2
 enum-told-2 c = search needs
@@ -46,13 +49,20 @@ slice-aggregate-result-2 : tie.Need-slice-aggregate-result-2
 slice-aggregate-result-2 c = search needs
 
 returns : tie.Need-returns
-returns c = rw (c .before .wide .ensures .0, c .before .before .key-length .ensures, add-sub-cancel-left) (key-part (now (c .before .before .before .before .before .before .before .args .entry)) (sym (c .before .before .before .before .before .key .ensures) ∙ c .before .before .before .enum-told .given .1) .is-part)
+returns c =
+    rw (c .before .wide .ensures .0, c .before .before .key-length .ensures, add-sub-cancel-left)
+    (key-part (now (c .before .before .before .before .before .before .before .args .entry))
+    (sym (c .before .before .before .before .before .key .ensures) ∙ c .before .before .before .enum-told .given .1) .is-part)
 
 returns-2 : tie.Need-returns-2
-returns-2 c = key-none (keyOf (now (c .before .before .before .before .before .args .entry))) (rw (← c .before .before .before .key .ensures, c .before .enum-told2 .given .1))
+returns-2 c =
+    key-none (keyOf (now (c .before .before .before .before .before .args .entry)))
+    (rw (← c .before .before .before .key .ensures, c .before .enum-told2 .given .1))
 
 returns-3 : tie.Need-returns-3
-returns-3 c = key-none (keyOf (now (c .before .before .before .before .before .args .entry))) (rw (← c .before .before .before .key .ensures, c .before .enum-told3 .given .1))
+returns-3 c =
+    key-none (keyOf (now (c .before .before .before .before .before .args .entry)))
+    (rw (← c .before .before .before .key .ensures, c .before .enum-told3 .given .1))
 
 pub key-bytes-spec : {M : Type 1} → statement M
 key-bytes-spec =

@@ -21,7 +21,12 @@ compare-requires c κs = search needs
 
 returns : tie.Need-returns
 returns c =
-    rw (← c .before .before .before .before .u16-to-uppercase .ensures, ← c .before .before .before .u16-to-uppercase2 .ensures, ← c .before .before .number .ensures, ← c .before .number2 .ensures) (c .compare .ensures)
+    rw (
+      ← c .before .before .before .before .u16-to-uppercase .ensures,
+      ← c .before .before .before .u16-to-uppercase2 .ensures,
+      ← c .before .before .number .ensures,
+      ← c .before .number2 .ensures,
+    ) (c .compare .ensures)
 
 pub compare-units-spec : {M : Type 1} → statement M
 compare-units-spec =

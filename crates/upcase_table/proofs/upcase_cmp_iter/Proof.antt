@@ -19,7 +19,12 @@ least-requires : tie.Need-least-requires Inv-loop μ-loop
 least-requires c κs = search needs
 
 loop-holds : tie.Need-loop-holds Inv-loop μ-loop
-loop-holds c = record { most = search needs; shorter = rw (units-length (now (c .before .before .before .before .args .other))) (c .least .ensures); same = refl }
+loop-holds c = record {
+  most = search needs;
+  shorter = rw (units-length (now (c .before .before .before .before .args .other))) (c .least .ensures);
+  same =
+      refl;
+}
 
 mul-compare-units : tie.Need-mul-compare-units Inv-loop μ-loop
 mul-compare-units c = search needs
@@ -37,13 +42,19 @@ enum-told : tie.Need-enum-told Inv-loop μ-loop
 enum-told c = search needs
 
 returns : tie.Need-returns Inv-loop μ-loop
-returns c = rw (c .enum-told .given .1) at (first (c .before .before .before .before .before .before .loop .inv) (c .before .before .before .before .before .loop-test .taken) (rw (c .before .before .before .unit-at .ensures) at (c .before .before .compare-units .ensures)))
+returns c =
+    rw (c .enum-told .given .1) at (first (c .before .before .before .before .before .before .loop .inv)
+    (c .before .before .before .before .before .loop-test .taken)
+    (rw (c .before .before .before .unit-at .ensures) at (c .before .before .compare-units .ensures)))
 
 enum-told-2 : tie.Need-enum-told-2 Inv-loop μ-loop
 enum-told-2 c = search needs
 
 returns-2 : tie.Need-returns-2 Inv-loop μ-loop
-returns-2 c = rw (c .enum-told2 .given .1) at (first (c .before .before .before .before .before .before .loop .inv) (c .before .before .before .before .before .loop-test .taken) (rw (c .before .before .before .unit-at .ensures) at (c .before .before .compare-units .ensures)))
+returns-2 c =
+    rw (c .enum-told2 .given .1) at (first (c .before .before .before .before .before .before .loop .inv)
+    (c .before .before .before .before .before .loop-test .taken)
+    (rw (c .before .before .before .unit-at .ensures) at (c .before .before .compare-units .ensures)))
 
 enum-told-3 : tie.Need-enum-told-3 Inv-loop μ-loop
 enum-told-3 c = search needs
@@ -55,13 +66,19 @@ loop-less : tie.Need-loop-less Inv-loop μ-loop
 loop-less c = search needs
 
 loop-again : tie.Need-loop-again Inv-loop μ-loop
-loop-again c = again (c .before .before .before .before .before .before .loop .inv) (c .before .before .before .before .before .loop-test .taken) (rw (c .enum-told3 .given .1) at (first (c .before .before .before .before .before .before .loop .inv) (c .before .before .before .before .before .loop-test .taken) (rw (c .before .before .before .unit-at .ensures) at (c .before .before .compare-units .ensures))))
+loop-again c =
+    again (c .before .before .before .before .before .before .loop .inv) (c .before .before .before .before .before .loop-test .taken)
+    (rw (c .enum-told3 .given .1) at (first (c .before .before .before .before .before .before .loop .inv)
+    (c .before .before .before .before .before .loop-test .taken)
+    (rw (c .before .before .before .unit-at .ensures) at (c .before .before .compare-units .ensures))))
 
 compare-requires : tie.Need-compare-requires Inv-loop μ-loop
 compare-requires c κs = search needs
 
 returns-3 : tie.Need-returns-3 Inv-loop μ-loop
-returns-3 c = c .compare .ensures ∙ (rw (units-length (now (c .before .before .before .before .before .before .before .args .other))) at (lengths (c .before .before .loop .inv) (c .before .loop-test .left)))
+returns-3 c =
+    c .compare .ensures ∙ (rw (units-length (now (c .before .before .before .before .before .before .before .args .other))) at
+    (lengths (c .before .before .loop .inv) (c .before .loop-test .left)))
 
 pub upcase-cmp-iter-spec : {M : Type 1} → statement M
 upcase-cmp-iter-spec =

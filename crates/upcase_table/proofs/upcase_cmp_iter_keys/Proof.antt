@@ -10,7 +10,8 @@ use Rattle.upcase_table.proofs.upcase_cmp_iter_keys.Statement.{statemen
 use Rattle.upcase_table.proofs.upcase_cmp_iter_keys.Tie as tie
 
 abbrev Inv-loop : tie.InvT-loop
-Inv-loop table name other count units end i₀ i = Comparing (upcase table) (unitsOf name) (unitsOf other) end i (nameOrder table (unitsOf name) (unitsOf other))
+Inv-loop table name other count units end i₀ i =
+    Comparing (upcase table) (unitsOf name) (unitsOf other) end i (nameOrder table (unitsOf name) (unitsOf other))
 
 abbrev μ-loop : tie.MeasureT-loop
 μ-loop table name other count units end i₀ i = end - i
@@ -19,7 +20,12 @@ least-requires : tie.Need-least-requires Inv-loop μ-loop
 least-requires c κs = search needs
 
 loop-holds : tie.Need-loop-holds Inv-loop μ-loop
-loop-holds c = record { most = search needs; shorter = rw (units-length (now (c .before .before .before .before .args .name)), units-length (now (c .before .before .before .before .args .other))) (c .least .ensures); same = refl }
+loop-holds c = record {
+  most = search needs;
+  shorter = rw (units-length (now (c .before .before .before .before .args .name)), units-length (now (c .before .before .before .before .args .other))) (c .least .ensures);
+  same =
+      refl;
+}
 
 unit-at-requires : tie.Need-unit-at-requires Inv-loop μ-loop
 unit-at-requires c κs = search needs
@@ -34,13 +40,21 @@ enum-told : tie.Need-enum-told Inv-loop μ-loop
 enum-told c = search needs
 
 returns : tie.Need-returns Inv-loop μ-loop
-returns c = rw (c .enum-told .given .1) at (first (c .before .before .before .before .before .before .loop .inv) (c .before .before .before .before .before .loop-test .taken) (rw (c .before .before .before .before .unit-at .ensures, c .before .before .before .unit-at2 .ensures) at (c .before .before .compare-units .ensures)))
+returns c =
+    rw (c .enum-told .given .1) at (first (c .before .before .before .before .before .before .loop .inv)
+    (c .before .before .before .before .before .loop-test .taken)
+    (rw (c .before .before .before .before .unit-at .ensures, c .before .before .before .unit-at2 .ensures) at
+    (c .before .before .compare-units .ensures)))
 
 enum-told-2 : tie.Need-enum-told-2 Inv-loop μ-loop
 enum-told-2 c = search needs
 
 returns-2 : tie.Need-returns-2 Inv-loop μ-loop
-returns-2 c = rw (c .enum-told2 .given .1) at (first (c .before .before .before .before .before .before .loop .inv) (c .before .before .before .before .before .loop-test .taken) (rw (c .before .before .before .before .unit-at .ensures, c .before .before .before .unit-at2 .ensures) at (c .before .before .compare-units .ensures)))
+returns-2 c =
+    rw (c .enum-told2 .given .1) at (first (c .before .before .before .before .before .before .loop .inv)
+    (c .before .before .before .before .before .loop-test .taken)
+    (rw (c .before .before .before .before .unit-at .ensures, c .before .before .before .unit-at2 .ensures) at
+    (c .before .before .compare-units .ensures)))
 
 enum-told-3 : tie.Need-enum-told-3 Inv-loop μ-loop
 enum-told-3 c = search needs
@@ -52,13 +66,24 @@ loop-less : tie.Need-loop-less Inv-loop μ-loop
 loop-less c = search needs
 
 loop-again : tie.Need-loop-again Inv-loop μ-loop
-loop-again c = again (c .before .before .before .before .before .before .loop .inv) (c .before .before .before .before .before .loop-test .taken) (rw (c .enum-told3 .given .1) at (first (c .before .before .before .before .before .before .loop .inv) (c .before .before .before .before .before .loop-test .taken) (rw (c .before .before .before .before .unit-at .ensures, c .before .before .before .unit-at2 .ensures) at (c .before .before .compare-units .ensures))))
+loop-again c =
+    again (c .before .before .before .before .before .before .loop .inv) (c .before .before .before .before .before .loop-test .taken)
+    (rw (c .enum-told3 .given .1) at (first (c .before .before .before .before .before .before .loop .inv)
+    (c .before .before .before .before .before .loop-test .taken)
+    (rw (c .before .before .before .before .unit-at .ensures, c .before .before .before .unit-at2 .ensures) at
+    (c .before .before .compare-units .ensures))))
 
 compare-requires : tie.Need-compare-requires Inv-loop μ-loop
 compare-requires c κs = search needs
 
 returns-3 : tie.Need-returns-3 Inv-loop μ-loop
-returns-3 c = c .compare .ensures ∙ (rw (units-length (now (c .before .before .before .before .before .before .before .args .name)), units-length (now (c .before .before .before .before .before .before .before .args .other))) at (lengths (c .before .before .loop .inv) (c .before .loop-test .left)))
+returns-3 c =
+    c .compare .ensures ∙ (rw (
+      units-length (now (c .before .before .before .before .before .before .before .args .name)),
+      units-length
+          (now (c .before .before .before .before .before .before .before .args .other)),
+    ) at
+    (lengths (c .before .before .loop .inv) (c .before .loop-test .left)))
 
 pub upcase-cmp-iter-keys-spec : {M : Type 1} → statement M
 upcase-cmp-iter-keys-spec =
