@@ -14,7 +14,7 @@ use Rattle.upcase_table.specs.Names.{unitsOf, comparedNames}
 use Rattle.index_allocation.specs.declared.Block.{Block}
 use Rattle.index_allocation.specs.declared.Block.the-variants as Block
 use Rattle.index_allocation.specs.Vcn.{blockOf}
-use Rattle.index_entry.specs.Part.{Part, absent, refused, present}
+use Rattle.refusal.specs.Part.{Part, absent, refused, present}
 use Rattle.index_entry.specs.Entry.{entryAt, keyOf, subnodeOf}
 
 abbrev pub benchUnit : ℕ → ℕ

@@ -7,7 +7,7 @@ use Rattle.le.specs.Le.{leAt}
 use Rattle.ordering.specs.Total.{Total}
 use Rattle.upcase_table.specs.Names.{nameOrder}
 use Rattle.file_reference.specs.Reference.{referenceOf, recordNumberOf, sequenceOf}
-use Rattle.index_entry.specs.Part.{present}
+use Rattle.refusal.specs.Part.{present}
 use Rattle.index_entry.specs.Entry.{entryLengthOf, entryAt}
 
 -- under every table the order of names is reflexive, transitive and connected, and agrees under exchange

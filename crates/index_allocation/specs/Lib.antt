@@ -1,1 +1,2 @@
 pub mod Vcn
+pub mod Place

@@ -16,7 +16,7 @@ use Rattle.refusal.specs.declared.Refusal.{Refusal}
 use Rattle.index_entry.specs.declared.EntryAt.the-variants as EntryAt
 use Rattle.index_entry.specs.declared.KeyPart.{KeyPart}
 use Rattle.index_entry.specs.declared.KeyPart.the-variants as KeyPart
-use Rattle.index_entry.specs.Part.{Part, absent, refused, present, bytesOf}
+use Rattle.refusal.specs.Part.{Part, absent, refused, present, bytesOf}
 use Rattle.index_entry.specs.Entry.{headerSize, entryLengthOf, keyLengthOf, isLast, entryAt, keyOf, entrySays, keySays}
 
 never : {A : Type 0} {r : Refusal} {x : A} → refused r ≡ present x → ⊥

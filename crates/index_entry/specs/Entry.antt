@@ -13,7 +13,7 @@ use Rattle.index_entry.specs.declared.KeyPart.{KeyPart}
 use Rattle.index_entry.specs.declared.KeyPart.the-variants as KeyPart
 use Rattle.index_entry.specs.declared.Subnode.{Subnode}
 use Rattle.index_entry.specs.declared.Subnode.the-variants as Subnode
-use Rattle.index_entry.specs.Part.{Part, absent, refused, present}
+use Rattle.refusal.specs.Part.{Part, absent, refused, present}
 
 -- the header's bytes, before any key
 abbrev pub headerSize : ℕ

@@ -1,7 +1,7 @@
 // An entry of an index node: src/index_entry.rs.
 ghost use mathlib.Core.Path.{_≡_};
 ghost use Prim.Native.Nat.{_-_, _<_};
-ghost use Rattle.index_entry.specs.Part.{bytesOf};
+ghost use Rattle.refusal.specs.Part.{bytesOf};
 ghost use Rattle.index_entry.specs.Entry.{entryLengthOf, keyLengthOf, flagsOf, hasSubnode, isLast, entryAt, keyOf, vcnOffset, subnodeOf, entrySays, keySays, subnodeSays};
 use refusal::Refusal;
 
