@@ -55,7 +55,7 @@ fn print_block(b: Block) {
     match b {
         Block::Number(n) => {
             print(b"VCN ");
-            io::print_decimal(1, n);
+            io::print_decimal(1, n as u64);
             print(b"\n");
         }
         Block::Refused(r) => print_refusal(r),

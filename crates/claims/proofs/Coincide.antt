@@ -16,6 +16,14 @@ use Rattle.file_reference.proofs.FileReference.from_bytes.Reads as from-bytes
 use Rattle.file_reference.proofs.FileReference.file_record_number.Reads as file-record-number
 use Rattle.file_reference.proofs.FileReference.sequence_number.Reads as sequence-number
 use Rattle.index_allocation.proofs.block_number.Reads as block-number
+use Rattle.index_allocation.proofs.record_from_vcn.Reads as record-from-vcn
+use Rattle.index_root.proofs.index_record_size.Reads as index-record-size
+use Rattle.index_root.proofs.is_large_index.Reads as is-large-index
+use Rattle.index_root.proofs.read_root.Reads as read-root
+use Rattle.index_root.proofs.check_sizes.Reads as check-sizes
+use Rattle.index_root.proofs.check_pool.Reads as check-pool
+use Rattle.index_root.proofs.open_root.Reads as open-root
+use Rattle.index_record.proofs.read_record.Reads as read-record
 use Rattle.index_entry.proofs.entry_at.Reads as entry-at
 use Rattle.index_entry.proofs.entry_bytes.Reads as entry-bytes
 use Rattle.index_entry.proofs.index_entry_length.Reads as index-entry-length
@@ -26,6 +34,10 @@ use Rattle.index_entry.proofs.is_last_entry.Reads as is-last-entry
 use Rattle.index_entry.proofs.key.Reads as key
 use Rattle.index_entry.proofs.key_bytes.Reads as key-bytes
 use Rattle.index_entry.proofs.subnode_vcn.Reads as subnode-vcn
+use Rattle.index_node.proofs.open_node.Reads as open-node
+use Rattle.index_node.proofs.node_bytes.Reads as node-bytes
+use Rattle.index_node.proofs.next_entry.Reads as next-entry
+use Rattle.index_node.proofs.place_bytes.Reads as place-bytes
 use Rattle.file_name.proofs.read_file_name.Reads as read-file-name
 use Rattle.file_name.proofs.name.Reads as name
 
@@ -72,6 +84,30 @@ one-sequence-number l a x y s t = same
 pub one-block-number : Coincide block-number.Post (λ l x. x)
 one-block-number l a x y s t = same
 
+pub one-record-from-vcn : Coincide record-from-vcn.Post (λ l x. x)
+one-record-from-vcn l a x y s t = same
+
+pub one-index-record-size : Coincide index-record-size.Post (λ l x. x)
+one-index-record-size l a x y s t = same
+
+pub one-is-large-index : Coincide is-large-index.Post (λ l x. x)
+one-is-large-index l a x y s t = same
+
+pub one-read-root : Coincide read-root.Post (λ l x. x)
+one-read-root l a x y s t = same
+
+pub one-check-sizes : Coincide check-sizes.Post (λ l x. x)
+one-check-sizes l a x y s t = same
+
+pub one-check-pool : Coincide check-pool.Post (λ l x. x)
+one-check-pool l a x y s t = same
+
+pub one-open-root : Coincide open-root.Post (λ l x. x)
+one-open-root l a x y s t = same
+
+pub one-read-record : Coincide read-record.Post (λ l x. x)
+one-read-record l a x y s t = same
+
 pub one-entry-at : Coincide entry-at.Post (λ l x. x)
 one-entry-at l a x y s t = same
 
@@ -101,6 +137,18 @@ one-key-bytes l a x y s t = same
 
 pub one-subnode-vcn : Coincide subnode-vcn.Post (λ l x. x)
 one-subnode-vcn l a x y s t = same
+
+pub one-open-node : Coincide open-node.Post (λ l x. x)
+one-open-node l a x y s t = same
+
+pub one-node-bytes : Coincide node-bytes.Post (λ l x. now x)
+one-node-bytes l a x y s t = same
+
+pub one-next-entry : Coincide next-entry.Post (λ l x. x)
+one-next-entry l a x y s t = same
+
+pub one-place-bytes : Coincide place-bytes.Post (λ l x. now x)
+one-place-bytes l a x y s t = same
 
 pub one-read-file-name : Coincide read-file-name.Post (λ l x. x)
 one-read-file-name l a x y s t = same

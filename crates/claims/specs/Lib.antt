@@ -1,3 +1,4 @@
 pub mod Bench
 pub mod Coincide
 pub mod Leaves
+pub mod Nodes

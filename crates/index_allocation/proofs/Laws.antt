@@ -53,27 +53,31 @@ pub record Lying (v : ℤ) (cluster size len r : ℕ) : Type 0 where
 in-offset : (offset size len r : ℕ) → recordIn offset size len ≡ Record r → (r * size ≡ offset) × (offset + size ≤ len)
 unfolding recordIn
 in-offset offset size len r e = elim (look (eqb (offset % size) 0)) [
-    it false p ↦ absurd (astray (rw (p, recordIn) at e))
+  | it false p ↦ absurd (astray (rw (p, recordIn) at e))
   | it true p ↦ elim (look (leb (offset + size) len)) [
-      it false q ↦ absurd (astray (rw (p, q, recordIn) at e))
+    | it false q ↦ absurd (astray (rw (p, q, recordIn) at e))
     | it true q ↦
         let same : Record (offset / size) ≡ Record r = rw (p, q, recordIn) at e in
         let n : offset / size ≡ r = cc in
         let m = eqb-true (offset % size) 0 p in
         let d = mod-add-div' offset size in
-        (rw (← n) (omega arith), leb-true (offset + size) len q) ] ]
+        (rw (← n) (omega arith), leb-true (offset + size) len q)
+  ]
+]
 
 pub lying : (v : ℤ) (cluster size len r : ℕ) → recordAt v cluster size len ≡ Record r → Lying v cluster size len r
 unfolding recordAt blockOf
 lying (negsuc n) cluster size len r e = absurd (astray e)
 lying (pos n) cluster size len r e = elim (look (eqb size 0)) [
-    it true p ↦ absurd (astray (rw p at e))
+  | it true p ↦ absurd (astray (rw p at e))
   | it false p ↦ elim (look (eqb cluster 0)) [
-      it true q ↦ absurd (astray (rw (p, q) at e))
+    | it true q ↦ absurd (astray (rw (p, q) at e))
     | it false q ↦
         let x = in-offset (n * cluster) size len r (rw (p, q) at e) in
         let c = eqb-false cluster 0 q in
-        record { number = n; is-number = refl; clusters = above cluster c; offset = x .0; whole = rw (x .0) (x .1) } ] ]
+        record { number = n; is-number = refl; clusters = above cluster c; offset = x .0; whole = rw (x .0) (x .1) }
+  ]
+]
   where
     above : (c : ℕ) → (c ≡ 0 → ⊥) → 0 < c
     above c h = search (h, arith)
@@ -85,5 +89,5 @@ one-vcn v w cluster size len r p q =
     let y = lying w cluster size len r q in
     let e : x .number * cluster ≡ y .number * cluster = sym (x .offset) ∙ y .offset in
     let n : x .number ≡ y .number =
-        sym (mul-div-cancel (x .number) (x .clusters)) ∙ ap (λ k. k / cluster) e ∙ mul-div-cancel (y .number) (x .clusters) in
+    sym (mul-div-cancel (x .number) (x .clusters)) ∙ ap (λ k. k / cluster) e ∙ mul-div-cancel (y .number) (x .clusters) in
     x .is-number ∙ ap pos n ∙ sym (y .is-number)

@@ -27,5 +27,6 @@ same-bits fa fb e = sym (toZ-ofZ {w = w64} fa) ∙ ap (toZ w64) e ∙ toZ-ofZ {w
 
 pub same-by-bits : (a b : ℤ) → SFits w64 a → SFits w64 b → eqb (ofZ w64 a) (ofZ w64 b) ≡ sameVcn a b
 same-by-bits a b fa fb = elim (look (eqb (ofZ w64 a) (ofZ w64 b))) [
-    it true p ↦ rw (p, same-bits fa fb (eqb-true _ _ p)) (sym (same-itself b))
-  | it false p ↦ rw p (sym (same-not a b (λ q. eqb-false _ _ p (ap (ofZ w64) q)))) ]
+  | it true p ↦ rw (p, same-bits fa fb (eqb-true _ _ p)) (sym (same-itself b))
+  | it false p ↦ rw p (sym (same-not a b (λ q. eqb-false _ _ p (ap (ofZ w64) q))))
+]

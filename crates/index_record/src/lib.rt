@@ -5,6 +5,7 @@ ghost use Rattle.index_record.specs.Record.{sameVcn, recordOf};
 use refusal::Refusal;
 
 const INDEX_RECORD_HEADER_SIZE: usize = 24;
+
 const INDX: u32 = 0x58444E49;
 
 // Where a record's entries start and end, or 14 to 17.

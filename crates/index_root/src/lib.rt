@@ -6,8 +6,11 @@ ghost use Rattle.index_root.specs.Sizes.{powers, oneOf, allowed, sizesJu
 use refusal::Refusal;
 
 const INDEX_ROOT_HEADER_SIZE: usize = 16;
+
 const INDEX_NODE_HEADER_SIZE: usize = 16;
+
 const LARGEST_RECORD_SIZE: usize = 4096;
+
 const LARGEST_CLUSTER_SIZE: usize = 65536;
 
 // What the root's header says: record size, where its entries start and end, the large flag.

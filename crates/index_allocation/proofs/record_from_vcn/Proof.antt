@@ -7,52 +7,44 @@ use Rattle.index_allocation.specs.Place.{recordAt}
 use borrow.Author.Needs.{needs}
 use Rattle.index_allocation.proofs.record_from_vcn.Statement.{statement}
 use Rattle.index_allocation.proofs.record_from_vcn.Tie as tie
-use Rattle.index_allocation.proofs.record_from_vcn.Reads as reads
-use Rattle.index_allocation.proofs.record_from_vcn.Lts as lts
-use Rattle.index_allocation.proofs.block_number.Reads as block-number-reads
-use Rattle.index_allocation.proofs.record_in.Reads as record-in-reads
 
--- src/lib.rt:51:11
 block-number-requires : tie.Need-block-number-requires
 block-number-requires c κs = search needs
 
--- src/lib.rt:52:23
 enum-known-v : tie.Need-enum-known-v
 enum-known-v c = search needs
 
--- src/lib.rt:54:17
 returns : tie.Need-returns
 unfolding recordAt
-returns c = 
-    let e = rw (toZ-ofZ {w = w64} (c .before .before .before .before .before .fits .vcn)) at (c .before .before .before .before .block-number .ensures) in
+returns c =
+    let e = rw (toZ-ofZ {w = w64} (c .before .before .before .before .before .fits .vcn)) at
+    (c .before .before .before .before .block-number .ensures) in
     rw (← e, c .before .before .v .given .1, eq-eqb _ _ (c .if1 .taken))
 
--- src/lib.rt:57:17
 returns-2 : tie.Need-returns-2
 unfolding recordAt
-returns-2 c = 
-    let e = rw (toZ-ofZ {w = w64} (c .before .before .before .before .before .before .fits .vcn)) at (c .before .before .before .before .before .block-number .ensures) in
+returns-2 c =
+    let e = rw (toZ-ofZ {w = w64} (c .before .before .before .before .before .before .fits .vcn)) at
+    (c .before .before .before .before .before .block-number .ensures) in
     rw (← e, c .before .before .before .v .given .1, ne-eqb _ _ (c .before .if1 .left), eq-eqb _ _ (c .if2 .taken))
 
--- src/lib.rt:59:13
 record-in-requires : tie.Need-record-in-requires
 record-in-requires c κs = search needs
 
--- src/lib.rt:61:24
 enum-known-r : tie.Need-enum-known-r
 enum-known-r c = search needs
 
--- src/lib.rt:48:1
 returns-3 : tie.Need-returns-3
 unfolding recordAt
-returns-3 c = 
-    let e = rw (toZ-ofZ {w = w64} (c .before .before .before .before .before .before .before .fits .vcn)) at (c .before .before .before .before .before .before .block-number .ensures) in
-    rw (← e, c .before .before .before .before .v .given .1, ne-eqb _ _ (c .before .before .if1 .left), ne-eqb _ _ (c .before .if2 .left)) (c .record-in .ensures)
+returns-3 c =
+    let e = rw (toZ-ofZ {w = w64} (c .before .before .before .before .before .before .before .fits .vcn)) at
+    (c .before .before .before .before .before .before .block-number .ensures) in
+    rw (← e, c .before .before .before .before .v .given .1, ne-eqb _ _ (c .before .before .if1 .left), ne-eqb _ _ (c .before .if2 .left))
+    (c .record-in .ensures)
 
--- src/lib.rt:48:1
 returns-4 : tie.Need-returns-4
 unfolding recordAt
-returns-4 c = 
+returns-4 c =
     let e = rw (toZ-ofZ {w = w64} (c .before .before .before .before .fits .vcn)) at (c .before .before .before .block-number .ensures) in
     rw (← e, c .before .r .given .1)
 

@@ -5,44 +5,54 @@ use Rattle.index_allocation.proofs.Laws.{product-within, product-beyond
 use borrow.Author.Needs.{needs}
 use Rattle.index_allocation.proofs.record_in.Statement.{statement}
 use Rattle.index_allocation.proofs.record_in.Tie as tie
-use Rattle.index_allocation.proofs.record_in.Reads as reads
-use Rattle.index_allocation.proofs.record_in.Lts as lts
 
--- src/lib.rt:35:8
 div-if1 : tie.Need-div-if1
 div-if1 c = search needs
 
--- src/lib.rt:36:9
 returns : tie.Need-returns
-returns c = outside _ _ _ (omega (arith, product-beyond (c .before .args .vcn) (c .before .args .cluster) (c .before .args .len) (c .before .pre .0) (c .if1 .taken)))
+returns c =
+    outside _ _ _ (omega (
+      arith,
+      product-beyond (c .before .args .vcn) (c .before .args .cluster) (c .before .args .len) (c .before .pre .0)
+          (c .if1 .taken),
+    ))
 
--- src/lib.rt:38:18
 mul-offset : tie.Need-mul-offset
-mul-offset c = omega (arith, product-within (c .before .args .vcn) (c .before .args .cluster) (c .before .args .len) (c .before .pre .0) (c .if1 .left))
+mul-offset c =
+    omega (arith, product-within (c .before .args .vcn) (c .before .args .cluster) (c .before .args .len) (c .before .pre .0) (c .if1 .left))
 
--- src/lib.rt:39:8
 rem-if2 : tie.Need-rem-if2
 rem-if2 c = search needs
 
--- src/lib.rt:40:9
 returns-2 : tie.Need-returns-2
 returns-2 c = askew _ _ _ (c .if2 .taken)
 
--- src/lib.rt:42:8
 sub-if3 : tie.Need-sub-if3
-sub-if3 c = product-within (c .before .before .args .vcn) (c .before .before .args .cluster) (c .before .before .args .len) (c .before .before .pre .0) (c .before .if1 .left)
+sub-if3 c =
+    product-within (c .before .before .args .vcn) (c .before .before .args .cluster) (c .before .before .args .len) (c .before .before .pre .0)
+    (c .before .if1 .left)
 
--- src/lib.rt:43:9
 returns-3 : tie.Need-returns-3
-returns-3 c = outside _ _ _ (omega (arith, product-within (c .before .before .before .args .vcn) (c .before .before .before .args .cluster) (c .before .before .before .args .len) (c .before .before .before .pre .0) (c .before .before .if1 .left), c .if3 .taken))
+returns-3 c =
+    outside _ _ _ (omega (
+      arith,
+      product-within (c .before .before .before .args .vcn) (c .before .before .before .args .cluster)
+          (c .before .before .before .args .len) (c .before .before .before .pre .0) (c .before .before .if1 .left),
+      c .if3 .taken,
+    ))
 
--- src/lib.rt:45:18
 div-t6 : tie.Need-div-t6
 div-t6 c = search needs
 
--- src/lib.rt:31:1
 returns-4 : tie.Need-returns-4
-returns-4 c = there _ _ _ (c .before .if2 .left) (omega (arith, product-within (c .before .before .before .args .vcn) (c .before .before .before .args .cluster) (c .before .before .before .args .len) (c .before .before .before .pre .0) (c .before .before .if1 .left), c .if3 .left))
+returns-4 c =
+    there _ _ _ (c .before .if2 .left)
+    (omega (
+      arith,
+      product-within (c .before .before .before .args .vcn) (c .before .before .before .args .cluster)
+          (c .before .before .before .args .len) (c .before .before .before .pre .0) (c .before .before .if1 .left),
+      c .if3 .left,
+    ))
 
 pub record-in-spec : {M : Type 1} → statement M
 record-in-spec =

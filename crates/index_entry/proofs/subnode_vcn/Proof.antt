@@ -35,7 +35,15 @@ signed-le64-requires c κs = search needs
 
 returns-2 : tie.Need-returns-2
 unfolding subnodeOf
-returns-2 c = rw (← c .before .before .before .before .has-subnode .ensures, c .before .before .before .if1 .taken, ← c .before .before .vcn-offset .ensures, le-ltb _ _ (c .before .if2 .left), ← c .signed-le64 .ensures) (ap Vcn (toZ-ofZ {w = w64} {z =
+returns-2 c =
+    rw (
+      ← c .before .before .before .before .has-subnode .ensures,
+      c .before .before .before .if1 .taken,
+      ← c .before .before .vcn-offset .ensures,
+      le-ltb _ _ (c .before .if2 .left),
+      ← c .signed-le64 .ensures,
+    ) (ap Vcn (toZ-ofZ {w =
+    w64} {z =
     c .signed-le64 .result} (search needs)))
 
 returns-3 : tie.Need-returns-3

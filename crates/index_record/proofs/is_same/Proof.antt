@@ -3,10 +3,7 @@
 use Rattle.index_record.proofs.Laws.{same-by-bits}
 use Rattle.index_record.proofs.is_same.Statement.{statement}
 use Rattle.index_record.proofs.is_same.Tie as tie
-use Rattle.index_record.proofs.is_same.Reads as reads
-use Rattle.index_record.proofs.is_same.Lts as lts
 
--- src/lib.rt:23:1
 returns : tie.Need-returns
 returns c = same-by-bits (c .args .a) (c .args .b) (c .fits .a) (c .fits .b)
 

@@ -7,89 +7,122 @@ use Rattle.index_record.specs.Record.{recordOf}
 use borrow.Author.Needs.{needs}
 use Rattle.index_record.proofs.read_record.Statement.{statement}
 use Rattle.index_record.proofs.read_record.Tie as tie
-use Rattle.index_record.proofs.read_record.Reads as reads
-use Rattle.index_record.proofs.read_record.Lts as lts
-use Rattle.index_record.proofs.is_same.Reads as is-same-reads
-use Rattle.index_record.proofs.wide.Reads as wide-reads
-use Rattle.le.proofs.le32.Reads as le32-reads
-use Rattle.le.proofs.signed_le64.Reads as signed-le64-reads
 
--- src/lib.rt:32:8
 le32-requires : tie.Need-le32-requires
 le32-requires c κs = search needs
 
--- src/lib.rt:33:9
 returns : tie.Need-returns
 unfolding recordOf
 returns c = rw (← c .before .le32 .ensures, ne-eqb _ _ (c .if1 .taken))
 
--- src/lib.rt:35:26
 le32-requires-2 : tie.Need-le32-requires-2
 le32-requires-2 c κs = search needs
 
--- src/lib.rt:35:9
 wide-requires : tie.Need-wide-requires
 wide-requires c κs = search needs
 
--- src/lib.rt:36:22
 add-if2 : tie.Need-add-if2
 add-if2 c = search needs
 
--- src/lib.rt:37:9
 returns-2 : tie.Need-returns-2
 unfolding recordOf
-returns-2 c = rw (← c .before .before .before .before .le32 .ensures, eq-eqb _ _ (c .before .before .before .if1 .left), ← c .before .before .le322 .ensures, ← c .before .wide .ensures .0, lt-ltb _ _ (c .if2 .taken))
+returns-2 c =
+    rw (
+      ← c .before .before .before .before .le32 .ensures,
+      eq-eqb _ _ (c .before .before .before .if1 .left),
+      ← c .before .before .le322 .ensures,
+      ← c .before .wide .ensures .0,
+      lt-ltb _ _ (c .if2 .taken),
+    )
 
--- src/lib.rt:39:21
 le32-requires-3 : tie.Need-le32-requires-3
 le32-requires-3 c κs = search needs
 
--- src/lib.rt:39:9
 wide-requires-2 : tie.Need-wide-requires-2
 wide-requires-2 c κs = search needs
 
--- src/lib.rt:41:9
 returns-3 : tie.Need-returns-3
 unfolding recordOf
-returns-3 c = rw (← c .before .before .before .before .before .before .before .le32 .ensures, eq-eqb _ _ (c .before .before .before .before .before .before .if1 .left), ← c .before .before .before .before .before .le322 .ensures, ← c .before .before .before .before .wide .ensures .0, le-ltb _ _ (c .before .before .before .if2 .left), ← c .before .before .le323 .ensures, ← c .before .wide2 .ensures .0, lt-ltb _ _ (c .if3 .taken))
+returns-3 c =
+    rw (
+      ← c .before .before .before .before .before .before .before .le32 .ensures,
+      eq-eqb _ _
+          (c .before .before .before .before .before .before .if1 .left),
+      ← c .before .before .before .before .before .le322 .ensures,
+      ← c .before .before .before .before .wide .ensures .0,
+      le-ltb _ _ (c .before .before .before .if2 .left),
+      ← c .before .before .le323 .ensures,
+      ← c .before .wide2 .ensures .0,
+      lt-ltb _ _ (c .if3 .taken),
+    )
 
--- src/lib.rt:43:16
 signed-le64-requires : tie.Need-signed-le64-requires
 signed-le64-requires c κs = search needs
 
--- src/lib.rt:43:8
 is-same-requires : tie.Need-is-same-requires
 is-same-requires c κs = search needs
 
--- src/lib.rt:44:53
 le32-requires-4 : tie.Need-le32-requires-4
 le32-requires-4 c κs = search needs
 
--- src/lib.rt:44:48
 wide-requires-3 : tie.Need-wide-requires-3
 wide-requires-3 c κs = search needs
 
--- src/lib.rt:44:21
 add-start : tie.Need-add-start
 add-start c = search needs
 
--- src/lib.rt:45:20
 add-used : tie.Need-add-used
 add-used c = search needs
 
--- src/lib.rt:46:9
 returns-4 : tie.Need-returns-4
 unfolding recordOf
-returns-4 c = 
-    let e = rw (toZ-ofZ {w = w64} {z = c .before .before .before .before .signed-le64 .result} (search needs), toZ-ofZ {w = w64} (c .before .before .before .before .before .before .before .before .before .before .before .before .before .before .fits .wanted), c .before .before .before .before .signed-le64 .ensures) at (c .before .before .before .is-same .ensures) in
-    rw (← c .before .before .before .before .before .before .before .before .before .before .before .before .le32 .ensures, eq-eqb _ _ (c .before .before .before .before .before .before .before .before .before .before .before .if1 .left), ← c .before .before .before .before .before .before .before .before .before .before .le322 .ensures, ← c .before .before .before .before .before .before .before .before .before .wide .ensures .0, le-ltb _ _ (c .before .before .before .before .before .before .before .before .if2 .left), ← c .before .before .before .before .before .before .before .le323 .ensures, ← c .before .before .before .before .before .before .wide2 .ensures .0, le-ltb _ _ (c .before .before .before .before .before .if3 .left), ← e, c .before .before .if4 .taken, ← c .before .le324 .ensures, ← c .wide3 .ensures .0)
+returns-4 c =
+    let e = rw (
+      toZ-ofZ {w = w64} {z = c .before .before .before .before .signed-le64 .result} (search needs),
+      toZ-ofZ {w = w64}
+          (c .before .before .before .before .before .before .before .before .before .before .before .before .before .before .fits .wanted),
+      c .before .before .before .before .signed-le64 .ensures,
+    ) at (c .before .before .before .is-same .ensures) in
+    rw (
+      ← c .before .before .before .before .before .before .before .before .before .before .before .before .le32 .ensures,
+      eq-eqb _ _
+          (c .before .before .before .before .before .before .before .before .before .before .before .if1 .left),
+      ← c .before .before .before .before .before .before .before .before .before .before .le322 .ensures,
+      ← c .before .before .before .before .before .before .before .before .before .wide .ensures .0,
+      le-ltb _ _
+          (c .before .before .before .before .before .before .before .before .if2 .left),
+      ← c .before .before .before .before .before .before .before .le323 .ensures,
+      ← c .before .before .before .before .before .before .wide2 .ensures .0,
+      le-ltb _ _ (c .before .before .before .before .before .if3 .left),
+      ← e,
+      c .before .before .if4 .taken,
+      ← c .before .le324 .ensures,
+      ← c .wide3 .ensures .0,
+    )
 
--- src/lib.rt:29:1
 returns-5 : tie.Need-returns-5
 unfolding recordOf
-returns-5 c = 
-    let e = rw (toZ-ofZ {w = w64} {z = c .before .before .signed-le64 .result} (search needs), toZ-ofZ {w = w64} (c .before .before .before .before .before .before .before .before .before .before .before .before .fits .wanted), c .before .before .signed-le64 .ensures) at (c .before .is-same .ensures) in
-    rw (← c .before .before .before .before .before .before .before .before .before .before .le32 .ensures, eq-eqb _ _ (c .before .before .before .before .before .before .before .before .before .if1 .left), ← c .before .before .before .before .before .before .before .before .le322 .ensures, ← c .before .before .before .before .before .before .before .wide .ensures .0, le-ltb _ _ (c .before .before .before .before .before .before .if2 .left), ← c .before .before .before .before .before .le323 .ensures, ← c .before .before .before .before .wide2 .ensures .0, le-ltb _ _ (c .before .before .before .if3 .left), ← e, c .if4 .left)
+returns-5 c =
+    let e = rw (
+      toZ-ofZ {w = w64} {z = c .before .before .signed-le64 .result} (search needs),
+      toZ-ofZ {w = w64}
+          (c .before .before .before .before .before .before .before .before .before .before .before .before .fits .wanted),
+      c .before .before .signed-le64 .ensures,
+    ) at (c .before .is-same .ensures) in
+    rw (
+      ← c .before .before .before .before .before .before .before .before .before .before .le32 .ensures,
+      eq-eqb _ _
+          (c .before .before .before .before .before .before .before .before .before .if1 .left),
+      ← c .before .before .before .before .before .before .before .before .le322 .ensures,
+      ← c .before .before .before .before .before .before .before .wide .ensures .0,
+      le-ltb _ _
+          (c .before .before .before .before .before .before .if2 .left),
+      ← c .before .before .before .before .before .le323 .ensures,
+      ← c .before .before .before .before .wide2 .ensures .0,
+      le-ltb _ _ (c .before .before .before .if3 .left),
+      ← e,
+      c .if4 .left,
+    )
 
 pub read-record-spec : {M : Type 1} → statement M
 read-record-spec =

@@ -5,25 +5,18 @@ use Rattle.index_root.specs.Sizes.{poolJudged}
 use borrow.Author.Needs.{needs}
 use Rattle.index_root.proofs.check_pool.Statement.{statement}
 use Rattle.index_root.proofs.check_pool.Tie as tie
-use Rattle.index_root.proofs.check_pool.Reads as reads
-use Rattle.index_root.proofs.check_pool.Lts as lts
-use Rattle.index_root.proofs.check_sizes.Reads as check-sizes-reads
 
--- src/lib.rt:143:13
 returns : tie.Need-returns
 unfolding poolJudged
 returns c = rw (eq-eqb _ _ (c .before .if1 .taken), c .if2 .taken)
 
--- src/lib.rt:145:9
 returns-2 : tie.Need-returns-2
 unfolding poolJudged
 returns-2 c = rw (eq-eqb _ _ (c .before .if1 .taken), c .if2 .left)
 
--- src/lib.rt:147:5
 check-sizes-requires : tie.Need-check-sizes-requires
 check-sizes-requires c κs = search needs
 
--- src/lib.rt:138:1
 returns-3 : tie.Need-returns-3
 unfolding poolJudged
 returns-3 c = rw (ne-eqb _ _ (c .before .if1 .left)) (c .check-sizes .ensures)

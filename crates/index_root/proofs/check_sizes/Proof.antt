@@ -7,38 +7,42 @@ use Rattle.index_root.proofs.Laws.{allowed-above}
 use borrow.Author.Needs.{needs}
 use Rattle.index_root.proofs.check_sizes.Statement.{statement}
 use Rattle.index_root.proofs.check_sizes.Tie as tie
-use Rattle.index_root.proofs.check_sizes.Reads as reads
-use Rattle.index_root.proofs.check_sizes.Lts as lts
-use Rattle.index_root.proofs.is_allowed.Reads as is-allowed-reads
 
--- src/lib.rt:125:8
 is-allowed-requires : tie.Need-is-allowed-requires
 is-allowed-requires c κs = search needs
 
--- src/lib.rt:126:12
 is-allowed-requires-2 : tie.Need-is-allowed-requires-2
 is-allowed-requires-2 c κs = search needs
 
--- src/lib.rt:127:16
 rem-if3 : tie.Need-rem-if3
 rem-if3 c = allowed-above _ _ (sym (c .before .before .before .is-allowed .ensures) ∙ c .before .before .if1 .taken)
 
--- src/lib.rt:128:17
 returns : tie.Need-returns
 unfolding sizesJudged
-returns c = rw (← c .before .before .before .before .is-allowed .ensures, c .before .before .before .if1 .taken, ← c .before .before .is-allowed2 .ensures, c .before .if2 .taken, eq-eqb _ _ (c .if3 .taken))
+returns c =
+    rw (
+      ← c .before .before .before .before .is-allowed .ensures,
+      c .before .before .before .if1 .taken,
+      ← c .before .before .is-allowed2 .ensures,
+      c .before .if2 .taken,
+      eq-eqb _ _ (c .if3 .taken),
+    )
 
--- src/lib.rt:130:13
 returns-2 : tie.Need-returns-2
 unfolding sizesJudged
-returns-2 c = rw (← c .before .before .before .before .is-allowed .ensures, c .before .before .before .if1 .taken, ← c .before .before .is-allowed2 .ensures, c .before .if2 .taken, ne-eqb _ _ (c .if3 .left))
+returns-2 c =
+    rw (
+      ← c .before .before .before .before .is-allowed .ensures,
+      c .before .before .before .if1 .taken,
+      ← c .before .before .is-allowed2 .ensures,
+      c .before .if2 .taken,
+      ne-eqb _ _ (c .if3 .left),
+    )
 
--- src/lib.rt:132:9
 returns-3 : tie.Need-returns-3
 unfolding sizesJudged
 returns-3 c = rw (← c .before .before .before .is-allowed .ensures, c .before .before .if1 .taken, ← c .before .is-allowed2 .ensures, c .if2 .left)
 
--- src/lib.rt:122:1
 returns-4 : tie.Need-returns-4
 unfolding sizesJudged
 returns-4 c = rw (← c .before .is-allowed .ensures, c .if1 .left)

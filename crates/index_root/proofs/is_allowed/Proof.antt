@@ -5,19 +5,13 @@ use Rattle.index_root.proofs.Laws.{allowed-not, allowed-power}
 use borrow.Author.Needs.{needs}
 use Rattle.index_root.proofs.is_allowed.Statement.{statement}
 use Rattle.index_root.proofs.is_allowed.Tie as tie
-use Rattle.index_root.proofs.is_allowed.Reads as reads
-use Rattle.index_root.proofs.is_allowed.Lts as lts
-use Rattle.index_root.proofs.is_power.Reads as is-power-reads
 
--- src/lib.rt:116:9
 returns : tie.Need-returns
 returns c = allowed-not _ _ (c .if1 .taken)
 
--- src/lib.rt:118:5
 is-power-requires : tie.Need-is-power-requires
 is-power-requires c κs = search needs
 
--- src/lib.rt:112:1
 returns-2 : tie.Need-returns-2
 returns-2 c = c .is-power .ensures ∙ allowed-power _ _ (c .before .if1 .left)
 

@@ -5,18 +5,13 @@ use lib.ListN.{List·getD-eq-default}
 use borrow.Author.Needs.{needs}
 use Rattle.index_root.proofs.is_large_index.Statement.{statement}
 use Rattle.index_root.proofs.is_large_index.Tie as tie
-use Rattle.index_root.proofs.is_large_index.Reads as reads
-use Rattle.index_root.proofs.is_large_index.Lts as lts
 
--- src/lib.rt:48:16
 shared-slice-read-result : tie.Need-shared-slice-read-result
 shared-slice-read-result c = search needs
 
--- src/lib.rt:48:9
 returns : tie.Need-returns
 returns c = search needs
 
--- src/lib.rt:44:1
 returns-2 : tie.Need-returns-2
 returns-2 c = rw (List·getD-eq-default (now (c .before .args .root)) 0 (c .if1 .left))
 

@@ -4,49 +4,48 @@ use Rattle.index_root.specs.Sizes.{rootIn}
 use borrow.Author.Needs.{needs}
 use Rattle.index_root.proofs.open_root.Statement.{statement}
 use Rattle.index_root.proofs.open_root.Tie as tie
-use Rattle.index_root.proofs.open_root.Reads as reads
-use Rattle.index_root.proofs.open_root.Lts as lts
-use Rattle.index_root.proofs.check_pool.Reads as check-pool-reads
-use Rattle.index_root.proofs.read_root.Reads as read-root-reads
 
--- src/lib.rt:154:11
 read-root-requires : tie.Need-read-root-requires
 read-root-requires c κs = search needs
 
--- src/lib.rt:155:27
 enum-known-r : tie.Need-enum-known-r
 enum-known-r c = search needs
 
--- src/lib.rt:156:24
 enum-known-header : tie.Need-enum-known-header
 enum-known-header c = search needs
 
--- src/lib.rt:156:41
 check-pool-requires : tie.Need-check-pool-requires
 check-pool-requires c κs = search needs
 
--- src/lib.rt:157:29
 enum-known-r-2 : tie.Need-enum-known-r-2
 enum-known-r-2 c = search needs
 
--- src/lib.rt:158:29
 enum-told : tie.Need-enum-told
 enum-told c = search needs
 
--- src/lib.rt:151:1
 returns : tie.Need-returns
 unfolding rootIn
 returns c = rw (← c .before .before .before .read-root .ensures, c .before .r .given .1)
 
--- src/lib.rt:151:1
 returns-2 : tie.Need-returns-2
 unfolding rootIn
-returns-2 c = rw (← c .before .before .before .before .before .before .before .read-root .ensures, c .before .before .before .before .before .header .given .1, ← c .before .before .before .check-pool .ensures, c .before .r2 .given .1)
+returns-2 c =
+    rw (
+      ← c .before .before .before .before .before .before .before .read-root .ensures,
+      c .before .before .before .before .before .header .given .1,
+      ← c .before .before .before .check-pool .ensures,
+      c .before .r2 .given .1,
+    )
 
--- src/lib.rt:151:1
 returns-3 : tie.Need-returns-3
 unfolding rootIn
-returns-3 c = rw (← c .before .before .before .before .before .before .read-root .ensures, c .before .before .before .before .header .given .1, ← c .before .before .check-pool .ensures, c .enum-told .given .1)
+returns-3 c =
+    rw (
+      ← c .before .before .before .before .before .before .read-root .ensures,
+      c .before .before .before .before .header .given .1,
+      ← c .before .before .check-pool .ensures,
+      c .enum-told .given .1,
+    )
 
 pub open-root-spec : {M : Type 1} → statement M
 open-root-spec =

@@ -5,73 +5,93 @@ use Rattle.index_root.specs.Root.{rootOf}
 use borrow.Author.Needs.{needs}
 use Rattle.index_root.proofs.read_root.Statement.{statement}
 use Rattle.index_root.proofs.read_root.Tie as tie
-use Rattle.index_root.proofs.read_root.Reads as reads
-use Rattle.index_root.proofs.read_root.Lts as lts
-use Rattle.index_root.proofs.index_record_size.Reads as index-record-size-reads
-use Rattle.index_root.proofs.is_large_index.Reads as is-large-index-reads
-use Rattle.index_root.proofs.wide.Reads as wide-reads
-use Rattle.le.proofs.le32.Reads as le32-reads
 
--- src/lib.rt:58:14
 add-if1 : tie.Need-add-if1
 add-if1 c = search needs
 
--- src/lib.rt:59:9
 returns : tie.Need-returns
 unfolding rootOf
 returns c = rw (lt-ltb _ _ (c .if1 .taken))
 
--- src/lib.rt:61:47
 le32-requires : tie.Need-le32-requires
 le32-requires c κs = search needs
 
--- src/lib.rt:61:42
 wide-requires : tie.Need-wide-requires
 wide-requires c κs = search needs
 
--- src/lib.rt:61:17
 add-start : tie.Need-add-start
 add-start c = search needs
 
--- src/lib.rt:62:46
 le32-requires-2 : tie.Need-le32-requires-2
 le32-requires-2 c κs = search needs
 
--- src/lib.rt:62:41
 wide-requires-2 : tie.Need-wide-requires-2
 wide-requires-2 c κs = search needs
 
--- src/lib.rt:62:16
 add-used : tie.Need-add-used
 add-used c = search needs
 
--- src/lib.rt:64:9
 returns-2 : tie.Need-returns-2
 unfolding rootOf
-returns-2 c = rw (le-ltb _ _ (c .before .before .before .before .before .if1 .left), ← c .before .before .before .before .le32 .ensures, ← c .before .before .before .wide .ensures .0, le-leb _ _ (c .if2 .taken))
+returns-2 c =
+    rw (
+      le-ltb _ _ (c .before .before .before .before .before .if1 .left),
+      ← c .before .before .before .before .le32 .ensures,
+      ← c .before .before .before .wide .ensures .0,
+      le-leb _ _ (c .if2 .taken),
+    )
 
--- src/lib.rt:67:9
 returns-3 : tie.Need-returns-3
 unfolding rootOf
-returns-3 c = rw (le-ltb _ _ (c .before .before .before .before .before .before .if1 .left), ← c .before .before .before .before .before .le32 .ensures, ← c .before .before .before .before .wide .ensures .0, lt-leb _ _ (c .before .if2 .left), ← c .before .before .before .le322 .ensures, ← c .before .before .wide2 .ensures .0, lt-ltb _ _ (c .if3 .taken))
+returns-3 c =
+    rw (
+      le-ltb _ _ (c .before .before .before .before .before .before .if1 .left),
+      ← c .before .before .before .before .before .le32 .ensures,
+      ← c .before .before .before .before .wide .ensures .0,
+      lt-leb _ _ (c .before .if2 .left),
+      ← c .before .before .before .le322 .ensures,
+      ← c .before .before .wide2 .ensures .0,
+      lt-ltb _ _ (c .if3 .taken),
+    )
 
--- src/lib.rt:70:9
 returns-4 : tie.Need-returns-4
 unfolding rootOf
-returns-4 c = rw (le-ltb _ _ (c .before .before .before .before .before .before .before .if1 .left), ← c .before .before .before .before .before .before .le32 .ensures, ← c .before .before .before .before .before .wide .ensures .0, lt-leb _ _ (c .before .before .if2 .left), ← c .before .before .before .before .le322 .ensures, ← c .before .before .before .wide2 .ensures .0, le-ltb _ _ (c .before .if3 .left), lt-ltb _ _ (c .if4 .taken))
+returns-4 c =
+    rw (
+      le-ltb _ _ (c .before .before .before .before .before .before .before .if1 .left),
+      ← c .before .before .before .before .before .before .le32 .ensures,
+      ← c .before .before .before .before .before .wide .ensures .0,
+      lt-leb _ _
+          (c .before .before .if2 .left),
+      ← c .before .before .before .before .le322 .ensures,
+      ← c .before .before .before .wide2 .ensures .0,
+      le-ltb _ _
+          (c .before .if3 .left),
+      lt-ltb _ _ (c .if4 .taken),
+    )
 
--- src/lib.rt:72:9
 index-record-size-requires : tie.Need-index-record-size-requires
 index-record-size-requires c κs = search needs
 
--- src/lib.rt:73:9
 is-large-index-requires : tie.Need-is-large-index-requires
 is-large-index-requires c κs = search needs
 
--- src/lib.rt:54:1
 returns-5 : tie.Need-returns-5
 unfolding rootOf
-returns-5 c = rw (le-ltb _ _ (c .before .before .before .before .before .before .before .before .before .if1 .left), ← c .before .before .before .before .before .before .before .before .le32 .ensures, ← c .before .before .before .before .before .before .before .wide .ensures .0, lt-leb _ _ (c .before .before .before .before .if2 .left), ← c .before .before .before .before .before .before .le322 .ensures, ← c .before .before .before .before .before .wide2 .ensures .0, le-ltb _ _ (c .before .before .before .if3 .left), le-ltb _ _ (c .before .before .if4 .left), ← c .before .index-record-size .ensures, ← c .is-large-index .ensures)
+returns-5 c =
+    rw (
+      le-ltb _ _ (c .before .before .before .before .before .before .before .before .before .if1 .left),
+      ← c .before .before .before .before .before .before .before .before .le32 .ensures,
+      ← c .before .before .before .before .before .before .before .wide .ensures .0,
+      lt-leb _ _ (c .before .before .before .before .if2 .left),
+      ← c .before .before .before .before .before .before .le322 .ensures,
+      ← c .before .before .before .before .before .wide2 .ensures .0,
+      le-ltb _ _
+          (c .before .before .before .if3 .left),
+      le-ltb _ _ (c .before .before .if4 .left),
+      ← c .before .index-record-size .ensures,
+      ← c .is-large-index .ensures,
+    )
 
 pub read-root-spec : {M : Type 1} → statement M
 read-root-spec =

@@ -22,7 +22,11 @@ least-requires c κs = search needs
 loop-holds : tie.Need-loop-holds Inv-loop μ-loop
 loop-holds c = record {
   most = search needs;
-  shorter = rw (units-length (now (c .before .before .before .before .args .name)), units-length (now (c .before .before .before .before .args .other))) (c .least .ensures);
+  shorter = rw (
+    units-length (now (c .before .before .before .before .args .name)),
+    units-length
+        (now (c .before .before .before .before .args .other)),
+  ) (c .least .ensures);
   same =
       refl;
 }

@@ -1,0 +1,89 @@
+"""01's rules in Python, written from 01 alone: what the proved functions are compared with. Nothing here is proved."""
+
+POWERS = [512, 1024, 2048, 4096, 8192, 16384, 32768, 65536]
+MOST_RECORD_SIZE = 4096
+
+
+class Refused(Exception):
+    """A numbered refusal."""
+
+    def __init__(self, number):
+        super().__init__(number)
+        self.number = number
+
+
+def number(s, at, n, signed=False):
+    return int.from_bytes(s[at : at + n], "little", signed=signed)
+
+
+class Node:
+    """A node: its bytes, where its entries start, its used end; and where it lies: "root", or the VCN and the record's number."""
+
+    def __init__(self, bytes_, start, used, vcn=None, record=None):
+        self.bytes, self.start, self.used, self.vcn, self.record = bytes_, start, used, vcn, record
+
+
+class Directory:
+    def __init__(self, root, pool, cluster):
+        self.root, self.pool, self.cluster = root, pool, cluster
+        self.size = number(root, 8, 4) if len(root) >= 12 else 0
+
+    def open_root(self):
+        """1 to 7."""
+        root, pool = self.root, self.pool
+        if len(root) < 32:
+            raise Refused(1)
+        start, used = 16 + number(root, 16, 4), 16 + number(root, 20, 4)
+        if start >= len(root):
+            raise Refused(2)
+        if used > len(root):
+            raise Refused(3)
+        if start > used:
+            raise Refused(4)
+        if not pool:
+            if root[28] & 1:
+                raise Refused(5)
+        else:
+            if self.size not in POWERS or self.size > MOST_RECORD_SIZE or self.cluster not in POWERS:
+                raise Refused(6)
+            if len(pool) % self.size:
+                raise Refused(7)
+        return Node(root[:used], start, used)
+
+    def place(self, vcn):
+        """13, or the record's number."""
+        if vcn < 0 or not self.pool or self.size == 0 or self.cluster == 0:
+            raise Refused(13)
+        offset = vcn * self.cluster
+        if offset % self.size or offset + self.size > len(self.pool):
+            raise Refused(13)
+        return offset // self.size
+
+    def read_record(self, vcn, record):
+        """14 to 17."""
+        s = self.pool[record * self.size : (record + 1) * self.size]
+        if s[:4] != b"INDX":
+            raise Refused(14)
+        used, allocated = number(s, 28, 4), number(s, 32, 4)
+        if 24 + allocated > self.size:
+            raise Refused(15)
+        if used > allocated:
+            raise Refused(16)
+        if number(s, 16, 8, signed=True) != vcn:
+            raise Refused(17)
+        return Node(s, 24 + number(s, 24, 4), 24 + used, vcn, record)
+
+    def open_record(self, vcn):
+        """13 to 17."""
+        return self.read_record(vcn, self.place(vcn))
+
+
+def entry_at(node, at):
+    """8, or the entry's bytes."""
+    remains = len(node.bytes) - at
+    if remains < 16:
+        raise Refused(8)
+    length = number(node.bytes, at + 8, 2)
+    if length < 16 or length > remains:
+        raise Refused(8)
+    return node.bytes[at : at + length]
