@@ -1,5 +1,5 @@
--- The bench examples P1 to P11, as one table. T is the identity but for 0x61 to 0x7A, which lose 32.
-use Prim.Native.Nat.{ℕ, zero, suc, _+_, _-_}
+-- The bench examples P1 to P12, as one table. T is the identity but for 0x61 to 0x7A, which lose 32.
+use Prim.Native.Nat.{ℕ, zero, suc, _+_, _-_, _/_, _%_}
 use mathlib.Core.Path.{_≡_}
 use mathlib.Core.List.{List, [], _∷_, _++_}
 use mathlib.Core.Bool.{cond}
@@ -16,6 +16,10 @@ use Rattle.index_allocation.specs.declared.Block.the-variants as Block
 use Rattle.index_allocation.specs.Vcn.{blockOf}
 use Rattle.refusal.specs.Part.{Part, absent, refused, present}
 use Rattle.index_entry.specs.Entry.{entryAt, keyOf, subnodeOf}
+use Rattle.file_reference.specs.Reference.{referenceOf, recordNumberOf}
+use Rattle.index_node.specs.Memory.{Memory, memory, placeBytes}
+use Rattle.index.specs.Walk.{never}
+use Rattle.index.specs.Listing.{Listing, done, stop, item, listing}
 
 abbrev pub benchUnit : ℕ → ℕ
 benchUnit k = cond (leb 0x61 k) (cond (leb k 0x7A) (k - 32) k) k
@@ -63,6 +67,49 @@ abbrev pub saidBlock : Block → Said ℕ
 saidBlock (Block.Number n) = value n
 saidBlock (Block.Refused r) = number (numberOf r)
 
+-- n in so many bytes, the lowest first
+abbrev pub bytes : ℕ → ℕ → List ℕ
+bytes zero n = []
+bytes (suc k) n = n % 256 ∷ bytes k (n / 256)
+
+-- entries without keys: of record n; of record n, above the record at a VCN; and the LAST_ENTRY
+abbrev pub leaf : ℕ → List ℕ
+leaf n = bytes 8 n ++ (bytes 2 16 ++ (bytes 2 0 ++ bytes 4 0))
+
+abbrev pub branch : ℕ → ℕ → List ℕ
+branch n vcn = bytes 8 n ++ (bytes 2 24 ++ (bytes 2 0 ++ (bytes 4 1 ++ bytes 8 vcn)))
+
+abbrev pub ending : List ℕ
+ending = bytes 8 0 ++ (bytes 2 16 ++ (bytes 2 0 ++ bytes 4 2))
+
+-- a node header: where the entries start, where they end, how much is allocated, the flags
+abbrev pub nodeHeader : (offset used allocated flags : ℕ) → List ℕ
+nodeHeader offset used allocated flags = bytes 4 offset ++ (bytes 4 used ++ (bytes 4 allocated ++ bytes 4 flags))
+
+-- a record of 512 bytes, its entries from 64
+abbrev pub recordWith : (vcn used : ℕ) → List ℕ → (free : ℕ) → List ℕ
+recordWith vcn used entries free =
+    bytes 4 0x58444E49 ++ (zeros 12 ++ (bytes 8 vcn ++ (nodeHeader 40 used 488 0 ++ (zeros 24 ++ (entries ++ zeros free)))))
+
+-- the tree of P12: the root holds 4 5 6; under 4, at VCN 0, are 1 3; under 3, at VCN 1, is 2
+abbrev pub tree : Memory
+tree =
+    memory
+    (bytes 4 48 ++ (bytes 4 1 ++ (bytes 4 512 ++ (bytes 4 1 ++ (nodeHeader 16 88 88 1 ++ (branch 4 0 ++ (leaf 5 ++ (leaf 6 ++ ending))))))))
+    (recordWith 0 96 (leaf 1 ++ (branch 3 1 ++ ending)) 392 ++ recordWith 1 72 (leaf 2 ++ ending) 416)
+    512
+
+-- the record numbers of the entries that a listing yields, and how it ends: a refusal, or how many records it opened
+abbrev pub yielded : Memory → Listing → List ℕ
+yielded m (done o) = []
+yielded m (stop r o) = []
+yielded m (item e o l) = recordNumberOf (referenceOf (placeBytes m (e .place))) ∷ yielded m l
+
+abbrev pub opens : Listing → Said ℕ
+opens (done o) = value o
+opens (stop r o) = number (numberOf r)
+opens (item e o l) = opens l
+
 -- a row: the example's number, what the definitions give, and what the paper says
 pub data Row : Type 1 where
   p : ℕ → {A : Type 0} → A → A → Row
@@ -89,8 +136,10 @@ rows =
     ∷ p 10 (said (subnodeOf (header 96 1 ++ offsets 10 16))) (value (pos 88))
     ∷ p 11 (said (subnodeOf (header 24 1 ++ ones))) (value (negsuc 0))
     ∷ p 11 (saidBlock (blockOf (negsuc 0))) (number 13)
+    ∷ p 12 (yielded tree (listing tree never)) (1 ∷ 2 ∷ 3 ∷ 4 ∷ 5 ∷ 6 ∷ [])
+    ∷ p 12 (opens (listing tree never)) (value 2)
     ∷ []
 
--- P1 to P11
+-- P1 to P12
 abbrev pub Bench : Type 0
 Bench = All rows

@@ -1,0 +1,132 @@
+-- A step's walk by single moves is the walk, and it ends: each move leaves less to do.
+-- A level that still reads may go down to the deepest that is allowed, and each level is dropped once.
+use Prim.Native.Nat.{ℕ, zero, suc, _+_, _-_, _*_, _≤_, _<_}
+use mathlib.Core.Path.{_≡_, refl, ap, _∙_, fun-ext}
+use mathlib.Core.List.{List, [], _∷_}
+use mathlib.Core.Bool.{Bool, true, false}
+use native.Mathlib.Omega.{arith}
+use lib.IntN.{ℤ}
+use lib.ListN.{length}
+use Rattle.logic.proofs.Cases.{it, look}
+use Rattle.refusal.specs.Part.{Part, absent, refused, present}
+use Rattle.index_entry.specs.Entry.{subnodeSays}
+use Rattle.index_node.specs.declared.Node.{Node}
+use Rattle.index_node.specs.declared.Node.the-variants.{Record}
+use Rattle.index_node.specs.declared.Viewed.{Viewed}
+use Rattle.index_node.specs.declared.Viewed.the-variants as Viewed
+use Rattle.index_node.specs.declared.Place.{Place}
+use Rattle.index_node.specs.Memory.{Memory}
+use Rattle.index_node.specs.Node.{viewOf}
+use Rattle.index.specs.declared.Stage.{Stage}
+use Rattle.index.specs.declared.Stage.the-variants.{Fresh, Going, Due, Ended}
+use Rattle.index.specs.declared.Level.{Level}
+use Rattle.index.specs.Entries.{Entry, Look, past, bad, met, lookAt, metAt}
+use Rattle.index.specs.Walk.{levels, dirOf, Opened, declined, opened, opening, unseen}
+use Rattle.index.specs.Step.{levelOf, Outcome, yields, ends, refuses, putOff, close, enter, visit, goDown, descend, leftBelow, begin, yieldDue, goOn, settle}
+use Rattle.index.specs.Turn.{metSays, readSays, startSays, Move, again, out, closeM, openM, tryM, subM, readM, visitM, beginM, levelM, turnM}
+use Rattle.index.proofs.Chains.{sees}
+use Rattle.index.proofs.Reading.{opening-left}
+
+abbrev pub load : Stage → ℕ → ℕ
+load Fresh i = 2 * levels - suc (2 * i)
+load Going i = 2 * levels - suc (2 * i)
+load (Due at) i = 1
+load Ended i = 1
+
+unfoldable pub weight : List Level → ℕ
+weight [] = 0
+weight (l ∷ ls) = load (l .stage) (length ls) + weight ls
+
+module _ (m : Memory) (spent : ℕ → Bool) where
+  pub record Moved (t : Outcome) (w : ℕ) (fs : List Level) (o : ℕ) : Type 0 where
+    pub few : length fs ≤ levels
+    pub less : weight fs < w
+    pub same : t ≡ settle m spent fs o
+
+  abbrev pub Moves : Outcome → ℕ → Move → Type 0
+  Moves t w (again fs o) = Moved t w fs o
+  Moves t w (out u) = t ≡ u
+
+  module _ (ls : List Level) (few : length ls < levels) where
+    abbrev up : ℕ → Outcome
+    up = settle m spent ls
+
+    abbrev full : ℕ
+    full = 2 * levels - suc (2 * length ls) + weight ls
+
+    closed : (e : Entry) → metAt m (e .place .node) (e .place .at) ≡ present e → (b : Bool) (x : ℕ)
+        → close b (e .place) x ls up ≡ settle m spent (putOff b (e .place) ∷ ls) x
+    unfolding settle
+    closed e due true x = refl
+    closed e due false x = rw due
+
+    load-off : (b : Bool) (p : Place) → weight (putOff b p ∷ ls) ≡ 1 + weight ls
+    unfolding weight
+    load-off true p = refl
+    load-off false p = refl
+
+    close-moves : (b : Bool) (p : Place) (o : ℕ) → Moves (close b p o ls up) full (closeM b p (p .at + p .size) o ls)
+    close-moves true p o = record { few = omega arith; less = omega arith; same = refl }
+    close-moves false p o = refl
+
+    module _ (e : Entry) (due : metAt m (e .place .node) (e .place .at) ≡ present e) where
+      abbrev closes : ℕ → Outcome
+      closes = λ x. close (e .final) (e .place) x ls up
+
+      opens : (v : ℤ) (o left : ℕ) (t : Opened) → suc (suc (length ls)) + left ≡ levels
+          → Moves (goDown t o (λ start. visit (descend m spent left) (lookAt m (Record v) start) (o + 1) (putOff (e .final) (e .place) ∷ ls) closes))
+          full (openM (startSays t) v (putOff (e .final) (e .place)) o ls)
+      unfolding settle weight
+      opens v o left (declined r) h = refl
+      opens v o left (opened number start es) h = record {
+        few = omega arith;
+        less = omega (arith, load-off (e .final) (e .place));
+        same = let q : left ≡ levels - suc (suc (length ls)) = omega arith in rw (q, fun-ext (closed e due (e .final)));
+      }
+
+      tries : (v : ℤ) (o left : ℕ) → suc (length ls) + left ≡ levels
+          → Moves (descend m spent left v o (putOff (e .final) (e .place) ∷ ls) closes) full
+          (openM (startSays (opening (dirOf m) left (spent o) unseen v)) v (putOff (e .final) (e .place)) o ls)
+      unfolding descend
+      tries v o zero h = elim (look (opening (dirOf m) zero (spent o) unseen v)) [
+        | it (declined r) p ↦ rw p
+        | it (opened number start es) p ↦ absurd (let z = opening-left m zero (spent o) start v (rw p) in omega arith)
+      ]
+      tries v o (suc left) h = opens v o left (opening (dirOf m) (suc left) (spent o) unseen v) (omega arith)
+
+      subs : (o : ℕ) (t : Part ℤ)
+          → Moves (enter (descend m spent (leftBelow ls)) t o (putOff (e .final) (e .place) ∷ ls) closes) full
+          (subM m spent (subnodeSays t) (metSays e) o (suc (length ls)) ls)
+      subs o absent = close-moves (e .final) (e .place) o
+      subs o (refused r) = refl
+      subs o (present v) = tries v o (leftBelow ls) (omega arith)
+
+    looks : (node : Node) (at o : ℕ) (t : Look) → lookAt m node at ≡ t
+        → Moves (visit (descend m spent (leftBelow ls)) t o ls up) full (readM m spent (readSays t) o (suc (length ls)) ls)
+    looks node at o past h = record { few = omega arith; less = omega arith; same = refl }
+    looks node at o (bad r) h = refl
+    looks node at o (met e) h =
+        let s = sees m node at e h in
+        let due : metAt m (e .place .node) (e .place .at) ≡ present e =
+        ap (λ n. metAt m n (e .place .at)) (s .is-node) ∙ ap (metAt m node) (s .is-at) ∙ s .due in
+        subs e due o (e .sub)
+
+    begins : (node : Node) (o : ℕ) (t : Viewed)
+        → Moves (begin t o (λ start. visit (descend m spent (leftBelow ls)) (lookAt m node start) o ls up)) full
+        (beginM m spent t node o (suc (length ls)) ls)
+    unfolding visitM
+    begins node o (Viewed.Refused r) = refl
+    begins node o (Viewed.Fine view) = looks node (view .start) o (lookAt m node (view .start)) refl
+
+    by-stage : (s : Stage) (node : Node) (next o : ℕ)
+        → Moves (goOn m spent s node next o ls up) (load s (length ls) + weight ls) (levelM m spent s node next o (suc (length ls)) ls)
+    unfolding levelM visitM
+    by-stage Fresh node next o = begins node o (viewOf m node)
+    by-stage Going node next o = looks node next o (lookAt m node next) refl
+    by-stage (Due at) node next o = refl
+    by-stage Ended node next o = record { few = omega arith; less = omega arith; same = refl }
+
+  pub moves : (fs : List Level) (o : ℕ) → length fs ≤ levels → Moves (settle m spent fs o) (weight fs) (turnM m spent fs o)
+  unfolding settle weight turnM
+  moves [] o few = refl
+  moves (l ∷ ls) o few = by-stage ls few (l .stage) (l .node) (l .next) o
