@@ -32,8 +32,11 @@ pub frames-fill : (fs : List Level) → length fs ≤ levels → frames (fill fs
 unfolding frames fill
 frames-fill [] h = refl
 frames-fill (l ∷ ls) h =
-    rw (getD-set-same (fill ls) (length ls) l blank (omega (arith, fill-length ls)), frames-set (fill ls) (length ls) l (length ls) (omega arith),
-    frames-fill ls (omega arith))
+    rw (
+      getD-set-same (fill ls) (length ls) l blank (omega (arith, fill-length ls)),
+      frames-set (fill ls) (length ls) l (length ls) (omega arith),
+      frames-fill ls (omega arith),
+    )
 
 pub frames-length : (s : List Level) (d : ℕ) → length (frames s d) ≡ d
 unfolding frames
@@ -69,8 +72,13 @@ set-push : (s : List Level) (d : ℕ) (l : Level) → s ≡ fill (frames s d) �
 unfolding fill
 set-push s d l e = ap (λ (t : List Level). set t d l) e ∙ rw (frames-length s d)
 
-cursor-eq : (ls ms : List Level) (d f o : ℕ) (r t : Kept) → ls ≡ ms → d ≡ f → r ≡ t → _≡_ {A = Cursor} (record { levels = ls; depth = d; opened = o; refusal = r }) (record { levels = ms; depth = f; opened = o; refusal =
-    t })
+cursor-eq : (ls ms : List Level) (d f o : ℕ) (r t : Kept) → ls ≡ ms → d ≡ f → r ≡ t → _≡_ {A = Cursor} (record { levels = ls; depth = d; opened = o; refusal = r }) (record {
+  levels = ms;
+  depth = f;
+  opened = o;
+  refusal =
+      t;
+})
 cursor-eq ls ms d f o r t p q s = λ i. record { levels = p i; depth = q i; opened = o; refusal = s i }
 
 module _ (c : Cursor) (t : Tidy c) where
@@ -84,21 +92,21 @@ module _ (c : Cursor) (t : Tidy c) where
   deep h = let e : c .depth ≡ suc (c .depth - 1) = omega arith in subst (λ (d : ℕ). c .levels ≡ fill (frames (c .levels) d)) e levels-tidy
 
   pub pop-law : 0 < c .depth → _≡_ {A = Cursor}
-  (record { levels = set (c .levels) (c .depth - 1) blank; depth = c .depth - 1; opened = c .opened; refusal = c .refusal })
-  (cursorOf (frames (c .levels) (c .depth - 1)) (c .opened) Nothing)
+      (record { levels = set (c .levels) (c .depth - 1) blank; depth = c .depth - 1; opened = c .opened; refusal = c .refusal })
+      (cursorOf (frames (c .levels) (c .depth - 1)) (c .opened) Nothing)
   pop-law h = cursor-eq _ _ _ _ _ _ _ (set-pop (c .levels) (c .depth - 1) (deep h)) (sym (frames-length (c .levels) (c .depth - 1))) kept-tidy
 
   pub top-law : (l : Level) → 0 < c .depth → _≡_ {A = Cursor}
-  (record { levels = set (c .levels) (c .depth - 1) l; depth = c .depth; opened = c .opened; refusal = c .refusal })
-  (cursorOf (l ∷ frames (c .levels) (c .depth - 1)) (c .opened) Nothing)
+      (record { levels = set (c .levels) (c .depth - 1) l; depth = c .depth; opened = c .opened; refusal = c .refusal })
+      (cursorOf (l ∷ frames (c .levels) (c .depth - 1)) (c .opened) Nothing)
   top-law l h = cursor-eq _ _ _ _ _ _ _ (set-top (c .levels) (c .depth - 1) (deep h) l)
-  (omega (arith, frames-length (c .levels) (c .depth - 1))) kept-tidy
+      (omega (arith, frames-length (c .levels) (c .depth - 1))) kept-tidy
 
   pub push-law : (l : Level) (o : ℕ) → _≡_ {A = Cursor}
-  (record { levels = set (c .levels) (c .depth) l; depth = c .depth + 1; opened = o; refusal = c .refusal })
-  (cursorOf (l ∷ frames (c .levels) (c .depth)) o Nothing)
+      (record { levels = set (c .levels) (c .depth) l; depth = c .depth + 1; opened = o; refusal = c .refusal })
+      (cursorOf (l ∷ frames (c .levels) (c .depth)) o Nothing)
   push-law l o = cursor-eq _ _ _ _ _ _ _ (set-push (c .levels) (c .depth) l levels-tidy)
-  (omega (arith, frames-length (c .levels) (c .depth))) kept-tidy
+      (omega (arith, frames-length (c .levels) (c .depth))) kept-tidy
 
 pub tidy-of : (fs : List Level) (o : ℕ) → length fs ≤ levels → Tidy (cursorOf fs o Nothing)
 tidy-of fs o h = record { few = h; same = rw (frames-fill fs h) }
@@ -121,18 +129,28 @@ module _ (r : Cursor) (fs : List Level) (o : ℕ) (e : r ≡ cursorOf fs o Nothi
 abbrev pub half : Cursor → ℕ → Cursor
 half c i = record { levels = fill (frames (c .levels) i); depth = 0; opened = c .opened; refusal = Nothing }
 
-pub half-next : (c r : Cursor) (i : ℕ) → r ≡ half c i → _≡_ {A = Cursor} (record { levels = set (r .levels) i (getD (c .levels) i blank); depth = r .depth; opened = r .opened; refusal =
-    r .refusal }) (half c (i + 1))
+pub half-next : (c r : Cursor) (i : ℕ) → r ≡ half c i → _≡_ {A = Cursor} (record {
+  levels = set (r .levels) i (getD (c .levels) i blank);
+  depth = r .depth;
+  opened = r .opened;
+  refusal =
+      r .refusal;
+}) (half c (i + 1))
 unfolding frames fill
 half-next c r i e = rw (e, add-one, frames-length (c .levels) i)
 
-pub half-whole : (c r : Cursor) (i : ℕ) → r ≡ half c i → i ≡ c .depth → _≡_ {A = Cursor} (record { levels = r .levels; depth = c .depth; opened = r .opened; refusal =
-    r .refusal }) (cursorOf (frames (c .levels) (c .depth)) (c .opened) Nothing)
+pub half-whole : (c r : Cursor) (i : ℕ) → r ≡ half c i → i ≡ c .depth → _≡_ {A = Cursor} (record {
+  levels = r .levels;
+  depth = c .depth;
+  opened = r .opened;
+  refusal =
+      r .refusal;
+}) (cursorOf (frames (c .levels) (c .depth)) (c .opened) Nothing)
 half-whole c r i e q = rw (e, q) (cursor-eq _ _ _ _ _ _ _ refl (sym (frames-length (c .levels) (c .depth))) refl)
 
 module _ (m : Memory) (s : List Level) where
   pub judge-next : (i : ℕ) → judgeAll m (frames s i) ≡ Fine → judge m (getD s i blank .stage) (getD s i blank .node) ≡ Fine
-    → judgeAll m (frames s (i + 1)) ≡ Fine
+      → judgeAll m (frames s (i + 1)) ≡ Fine
   unfolding frames judgeAll
   judge-next i e h = rw (add-one, e, h)
 
@@ -142,10 +160,10 @@ module _ (m : Memory) (s : List Level) where
   judge-up (suc j) i d r q e = let p : d ≡ suc (i + j) = omega arith in rw (p, judge-up j i (i + j) r refl e)
 
   judge-fail : (i : ℕ) (r : Refusal) → judgeAll m (frames s i) ≡ Fine → judge m (getD s i blank .stage) (getD s i blank .node) ≡ Refused r
-    → judgeAll m (frames s (suc i)) ≡ Refused r
+      → judgeAll m (frames s (suc i)) ≡ Refused r
   unfolding frames judgeAll
   judge-fail i r e h = rw (e, h)
 
   pub judge-stops : (i d : ℕ) (r : Refusal) → i < d → judgeAll m (frames s i) ≡ Fine
-    → judge m (getD s i blank .stage) (getD s i blank .node) ≡ Refused r → Refused r ≡ judgeAll m (frames s d)
+      → judge m (getD s i blank .stage) (getD s i blank .node) ≡ Refused r → Refused r ≡ judgeAll m (frames s d)
   judge-stops i d r l e h = sym (judge-up (d - suc i) (suc i) d r (omega arith) (judge-fail i r e h))

@@ -46,57 +46,65 @@ module _ (bytes : List ℕ) (view : View) (at : ℕ) where
   pub read-over : nextIn bytes view at ≡ Next.Over → Read.Over ≡ readSays (lookIn bytes view at)
   unfolding nextIn lookIn metIn
   read-over h = elim (look (ltb at (view .used))) [
-      it false p ↦ rw p
+    | it false p ↦ rw p
     | it true p ↦ elim (look (entryAt bytes at)) [
-        it absent q ↦ clash (cc (rw (p, q) at h))
+      | it absent q ↦ clash (cc (rw (p, q) at h))
       | it (refused r) q ↦ clash (cc (rw (p, q) at h))
-      | it (present e) q ↦ clash (cc (rw (p, q) at h)) ] ]
+      | it (present e) q ↦ clash (cc (rw (p, q) at h))
+    ]
+  ]
 
   pub read-refused : (r : Refusal) → nextIn bytes view at ≡ Next.Refused r → Read.Refused r ≡ readSays (lookIn bytes view at)
   unfolding nextIn lookIn metIn
   read-refused r h = elim (look (ltb at (view .used))) [
-      it false p ↦ clash (cc (rw p at h))
+    | it false p ↦ clash (cc (rw p at h))
     | it true p ↦ elim (look (entryAt bytes at)) [
-        it absent q ↦ let same = rw (p, q) at h in rw (p, q) (cc)
+      | it absent q ↦ let same = rw (p, q) at h in rw (p, q) (cc)
       | it (refused s) q ↦ let same = rw (p, q) at h in rw (p, q) (cc)
-      | it (present e) q ↦ clash (cc (rw (p, q) at h)) ] ]
+      | it (present e) q ↦ clash (cc (rw (p, q) at h))
+    ]
+  ]
 
   -- the entry's own bytes
   abbrev own : List ℕ
   own = bytesOf (entryAt bytes at)
 
   pub read-entry : (p : Place) → nextIn bytes view at ≡ Next.Entry p
-    → Read.Entry (record { place = p; next = at + p .size; last = isLast own; sub = subnodeSays (subnodeOf own) }) ≡ readSays (lookIn bytes view at)
+      → Read.Entry (record { place = p; next = at + p .size; last = isLast own; sub = subnodeSays (subnodeOf own) }) ≡ readSays (lookIn bytes view at)
   unfolding nextIn lookIn metIn
   read-entry pl h = elim (look (ltb at (view .used))) [
-      it false p ↦ clash (cc (rw p at h))
+    | it false p ↦ clash (cc (rw p at h))
     | it true p ↦ elim (look (entryAt bytes at)) [
-        it absent q ↦ clash (cc (rw (p, q) at h))
+      | it absent q ↦ clash (cc (rw (p, q) at h))
       | it (refused s) q ↦ clash (cc (rw (p, q) at h))
       | it (present e) q ↦
           let same : Next.Entry (record { node = view .node; at = at; size = length e }) ≡ Next.Entry pl = rw (p, q) at h in
           let is : record { node = view .node; at = at; size = length e } ≡ pl = cc in
-          rw (p, q, ← is) ] ]
+          rw (p, q, ← is)
+    ]
+  ]
 
   -- the entry lies in the bytes, so that its end is a number
   pub read-within : (p : Place) → nextIn bytes view at ≡ Next.Entry p → at + p .size ≤ length bytes
   unfolding nextIn
   read-within pl h = elim (look (ltb at (view .used))) [
-      it false p ↦ clash (cc (rw p at h))
+    | it false p ↦ clash (cc (rw p at h))
     | it true p ↦ elim (look (entryAt bytes at)) [
-        it absent q ↦ clash (cc (rw (p, q) at h))
+      | it absent q ↦ clash (cc (rw (p, q) at h))
       | it (refused s) q ↦ clash (cc (rw (p, q) at h))
       | it (present e) q ↦
           let same : Next.Entry (record { node = view .node; at = at; size = length e }) ≡ Next.Entry pl = rw (p, q) at h in
           let is : record { node = view .node; at = at; size = length e } ≡ pl = cc in
-          rw (← is) (entered bytes at e q .within) ] ]
+          rw (← is) (entered bytes at e q .within)
+    ]
+  ]
 
 abbrev pub stands : Node → ℕ → EntryAt → Standing
 stands node at (EntryAt.Refused r) = Standing.Refused r
 stands node at (EntryAt.Entry size) = Standing.Entry (record { node = node; at = at; size = size })
 
 pub stands-as : (node : Node) (at : ℕ) (p : Part (List ℕ)) (said : EntryAt) → said ≡ entrySays p → stands node at said ≡ standingSays
-(entryPart node at p)
+    (entryPart node at p)
 stands-as node at absent said e = rw e
 stands-as node at (refused r) said e = rw e
 stands-as node at (present s) said e = rw e
@@ -114,15 +122,17 @@ judged-fine (present x) place e = refl
 module _ (p : Part Entry) (node : Node) (next o : ℕ) (ls : List Level) where
   pub due-refused : (r : Refusal) → standingSays p ≡ Standing.Refused r → yieldDue p node next o ls ≡ refuses r o
   due-refused r e = elim (look p) [
-      it absent q ↦ let s = rw q at e in rw q (cc)
+    | it absent q ↦ let s = rw q at e in rw q (cc)
     | it (refused x) q ↦ let s = rw q at e in rw q (cc)
-    | it (present x) q ↦ clash (cc (rw q at e)) ]
+    | it (present x) q ↦ clash (cc (rw q at e))
+  ]
 
   pub due-entry : (place : Place) → standingSays p ≡ Standing.Entry place → yieldDue p node next o ls ≡ yields place o (levelOf node next Going ∷ ls)
   due-entry place e = elim (look p) [
-      it absent q ↦ clash (cc (rw q at e))
+    | it absent q ↦ clash (cc (rw q at e))
     | it (refused x) q ↦ clash (cc (rw q at e))
-    | it (present x) q ↦ let s : Standing.Entry (x .place) ≡ Standing.Entry place = rw q at e in rw q (cc) ]
+    | it (present x) q ↦ let s : Standing.Entry (x .place) ≡ Standing.Entry place = rw q at e in rw q (cc)
+  ]
 
 -- where the node goes on, as the code has it
 pub next-is : (l : Look) (x : Met) → readSays l ≡ Read.Entry x → x .next ≡ x .place .at + x .place .size
@@ -142,7 +152,7 @@ module _ (m : Memory) (left : ℕ) (spent : Bool) (vcn : ℤ) where
 
 module _ (m : Memory) (vcn : ℤ) where
   pub open-spent : (left : ℕ) → (length (m .pool) ≡ 0 → ⊥) → (left ≡ 0 → ⊥)
-    → Start.Refused AllowanceSpent ≡ startSays (opening (dirOf m) left true unseen vcn)
+      → Start.Refused AllowanceSpent ≡ startSays (opening (dirOf m) left true unseen vcn)
   unfolding opening dirOf
   open-spent zero some deep = absurd (deep refl)
   open-spent (suc left) some deep = rw (ne-eqb (length (m .pool)) 0 some)
@@ -152,45 +162,52 @@ module _ (m : Memory) (vcn : ℤ) where
   nowhere-view s p = rw p
 
   pub open-wrong : (left : ℕ) (r : Refusal) → (length (m .pool) ≡ 0 → ⊥) → (left ≡ 0 → ⊥) → viewOf m (Record vcn) ≡ Viewed.Refused r
-    → Start.Refused r ≡ startSays (opening (dirOf m) left false unseen vcn)
+      → Start.Refused r ≡ startSays (opening (dirOf m) left false unseen vcn)
   unfolding opening dirOf
   open-wrong zero r some deep e = absurd (deep refl)
   open-wrong (suc left) r some deep e = elim (look (placed m vcn)) [
-      it (Lies.Refused s) p ↦
+    | it (Lies.Refused s) p ↦
         let same : Viewed.Refused s ≡ Viewed.Refused r = sym (nowhere-view s p) ∙ e in
         rw (ne-eqb (length (m .pool)) 0 some, p, opening) (cc)
-    | it (Lies.Record n) p ↦ rw (ne-eqb (length (m .pool)) 0 some, p, e, opening) ]
+    | it (Lies.Record n) p ↦ rw (ne-eqb (length (m .pool)) 0 some, p, e, opening)
+  ]
 
   pub open-fine : (left : ℕ) (view : View) → (length (m .pool) ≡ 0 → ⊥) → (left ≡ 0 → ⊥) → viewOf m (Record vcn) ≡ Viewed.Fine view
-    → Start.At (view .start) ≡ startSays (opening (dirOf m) left false unseen vcn)
+      → Start.At (view .start) ≡ startSays (opening (dirOf m) left false unseen vcn)
   unfolding opening dirOf
   open-fine zero view some deep e = absurd (deep refl)
   open-fine (suc left) view some deep e = elim (look (placed m vcn)) [
-      it (Lies.Refused s) p ↦ clash (cc (nowhere-view s p))
-    | it (Lies.Record n) p ↦ rw (ne-eqb (length (m .pool)) 0 some, p, e, opening) ]
+    | it (Lies.Refused s) p ↦ clash (cc (nowhere-view s p))
+    | it (Lies.Record n) p ↦ rw (ne-eqb (length (m .pool)) 0 some, p, e, opening)
+  ]
 
 -- a record that was opened: the pool was not empty, a level was left, and the allowance was not spent
 module _ (m : Memory) (left : ℕ) (spent : Bool) (start : ℕ) (vcn : ℤ) (e : startSays (opening (dirOf m) left spent unseen vcn) ≡ Start.At start) where
   opened-left : 0 < left
   unfolding opening dirOf
   opened-left = elim (look (eqb (length (m .pool)) 0)) [
-      it true p ↦ clash (cc (rw (p, opening) at e))
+    | it true p ↦ clash (cc (rw (p, opening) at e))
     | it false p ↦ elim (look left) [
-        it zero q ↦ clash (cc (rw (p, q, opening) at e))
-      | it (suc l) q ↦ omega arith ] ]
+      | it zero q ↦ clash (cc (rw (p, q, opening) at e))
+      | it (suc l) q ↦ omega arith
+    ]
+  ]
 
   opened-unspent : spent ≡ false
   unfolding opening dirOf
   opened-unspent = elim (look (eqb (length (m .pool)) 0)) [
-      it true p ↦ clash (cc (rw (p, opening) at e))
+    | it true p ↦ clash (cc (rw (p, opening) at e))
     | it false p ↦ elim (look left) [
-        it zero q ↦ clash (cc (rw (p, q, opening) at e))
+      | it zero q ↦ clash (cc (rw (p, q, opening) at e))
       | it (suc l) q ↦ elim (look spent) [
-          it true s ↦ clash (cc (rw (p, q, s, opening) at e))
-        | it false s ↦ s ] ] ]
+        | it true s ↦ clash (cc (rw (p, q, s, opening) at e))
+        | it false s ↦ s
+      ]
+    ]
+  ]
 
 pub opening-left : (m : Memory) (left : ℕ) (spent : Bool) (start : ℕ) (vcn : ℤ) → startSays
-(opening (dirOf m) left spent unseen vcn) ≡ Start.At start → 0 < left
+    (opening (dirOf m) left spent unseen vcn) ≡ Start.At start → 0 < left
 opening-left m left spent start vcn e = opened-left m left spent start vcn e
 
 pub opening-room : (m : Memory) (a o left start : ℕ) (vcn : ℤ) → startSays (opening (dirOf m) left (allow a o) unseen vcn) ≡ Start.At start → o < a

@@ -34,8 +34,9 @@ module _ (m : Memory) (spent : ℕ → Bool) where
   unfolding turnM frames
   turn-none s d o e = rw e
 
-  pub turn-some : (s : List Level) (d o : ℕ) → 0 < d → turnM m spent (frames s d) o ≡ levelM m spent (getD s (d - 1) blank .stage)
-  (getD s (d - 1) blank .node) (getD s (d - 1) blank .next) o d (frames s (d - 1))
+  pub turn-some : (s : List Level) (d o : ℕ) → 0 < d
+      → let l = getD s (d - 1) blank in
+      turnM m spent (frames s d) o ≡ levelM m spent (l .stage) (l .node) (l .next) o d (frames s (d - 1))
   unfolding turnM frames
   turn-some s d o h =
       let e : d ≡ suc (d - 1) = omega arith in
@@ -47,47 +48,58 @@ module _ (m : Memory) (spent : ℕ → Bool) where
     pub same : settle m spent (frames (c .levels) (c .depth)) (c .opened) ≡ t
 
   module _ (u : Turned) (t : Outcome) (w : ℕ) where
-    goes-by : (v : Move) → Moves m spent t w v → u ≡ turnedOf v → u .next ≡ Again → Onward (u .cursor) w t
-    goes-by (again fs o) g e h = rw e
-    (record { tidy = tidy-of fs o (g .few); less = rw (frames-fill fs (g .few)) (g .less); same = rw (frames-fill fs (g .few)) (sym (g .same)) })
-    goes-by (out x) g e h = absurd (let q : Says (told x .answer) ≡ Again = sym (ap (λ (y : Turned). y .next) e) ∙
-    h in let z : _≡_ {A = ℕ} 0 1 = cc in omega arith)
+    next-of : {v : Turned} → u ≡ v → u .next ≡ v .next
+    next-of e = ap (λ (x : Turned). x .next) e
 
-    stops-by : (v : Move) → Moves m spent t w v → u ≡ turnedOf v → (a : Answer) → u .next ≡ Says a → _≡_ {A = Stepped}
-    (record { answer = a; cursor = u .cursor }) (told t)
-    stops-by (again fs o) g e a h = absurd (let q : Again ≡ Says a = sym (ap (λ (y : Turned). y .next) e) ∙
-    h in let z : _≡_ {A = ℕ} 0 1 = cc in omega arith)
+    goes-by : (v : Move) → Moves m spent t w v → u ≡ turnedOf v → u .next ≡ Again → Onward (u .cursor) w t
+    goes-by (again fs o) g e h = rw e (record {
+      tidy = tidy-of fs o (g .few);
+      less = rw (frames-fill fs (g .few)) (g .less);
+      same = rw (frames-fill fs (g .few)) (sym (g .same));
+    })
+    goes-by (out x) g e h =
+        let q : Says (told x .answer) ≡ Again = sym (next-of e) ∙ h in
+        absurd (let z : _≡_ {A = ℕ} 0 1 = cc in omega arith)
+
+    stops-by : (v : Move) → Moves m spent t w v → u ≡ turnedOf v → (a : Answer) → u .next ≡ Says a → says a (u .cursor) ≡ told t
+    stops-by (again fs o) g e a h =
+        let q : Again ≡ Says a = sym (next-of e) ∙ h in
+        absurd (let z : _≡_ {A = ℕ} 0 1 = cc in omega arith)
     stops-by (out x) g e a h =
-        let q : Says (told x .answer) ≡ Says a = sym (ap (λ (y : Turned). y .next) e) ∙ h in
+        let q : Says (told x .answer) ≡ Says a = sym (next-of e) ∙ h in
         let s : told x .answer ≡ a = cc in
         rw (g, e, ← s)
 
+  -- a turn of the loop, from a tidy cursor
   module _ (c : Cursor) (y : Tidy c) (u : Turned) (e : u ≡ turnedOf (turnM m spent (frames (c .levels) (c .depth)) (c .opened))) where
-    moved : Moves m spent (settle m spent (frames (c .levels) (c .depth)) (c .opened)) (weight (frames (c .levels) (c .depth)))
-    (turnM m spent (frames (c .levels) (c .depth)) (c .opened))
-    moved = moves m spent (frames (c .levels) (c .depth)) (c .opened) (rw (frames-length (c .levels) (c .depth)) (y .few))
+    abbrev here : List Level
+    here = frames (c .levels) (c .depth)
 
-    pub turn-again : u .next ≡ Again → Onward (u .cursor) (weight (frames (c .levels) (c .depth)))
-    (settle m spent (frames (c .levels) (c .depth)) (c .opened))
-    turn-again h = goes-by u (settle m spent (frames (c .levels) (c .depth)) (c .opened)) (weight (frames (c .levels) (c .depth)))
-    (turnM m spent (frames (c .levels) (c .depth)) (c .opened)) moved e h
+    abbrev outcome : Outcome
+    outcome = settle m spent here (c .opened)
 
-    pub turn-says : (a : Answer) → u .next ≡ Says a → _≡_ {A = Stepped} (record { answer = a; cursor = u .cursor })
-    (told (settle m spent (frames (c .levels) (c .depth)) (c .opened)))
-    turn-says a h = stops-by u (settle m spent (frames (c .levels) (c .depth)) (c .opened)) (weight (frames (c .levels) (c .depth)))
-    (turnM m spent (frames (c .levels) (c .depth)) (c .opened)) moved e a h
+    moved : Moves m spent outcome (weight here) (turnM m spent here (c .opened))
+    moved = moves m spent here (c .opened) (rw (frames-length (c .levels) (c .depth)) (y .few))
+
+    pub turn-again : u .next ≡ Again → Onward (u .cursor) (weight here) outcome
+    turn-again h = goes-by u outcome (weight here) (turnM m spent here (c .opened)) moved e h
+
+    pub turn-says : (a : Answer) → u .next ≡ Says a → says a (u .cursor) ≡ told outcome
+    turn-says a h = stops-by u outcome (weight here) (turnM m spent here (c .opened)) moved e a h
 
   -- the checks of a step pass only where there are not too many levels
   pub checks-few : (d : ℕ) (fs : List Level) → checks m d fs ≡ Judged.Fine → d ≤ levels
   unfolding checks
   checks-few d fs e = elim (look (judgedView (viewOf m Root))) [
-      it (Judged.Refused r) p ↦ absurd (let z : _≡_ {A = ℕ} 0 1 = cc (rw p at e) in omega arith)
+    | it (Judged.Refused r) p ↦ absurd (let z : _≡_ {A = ℕ} 0 1 = cc (rw p at e) in omega arith)
     | it Judged.Fine p ↦ elim (look (ltb levels d)) [
-        it true q ↦ absurd (let z : _≡_ {A = ℕ} 0 1 = cc (rw (p, q) at e) in omega arith)
-      | it false q ↦ ltb-false levels d q ] ]
+      | it true q ↦ absurd (let z : _≡_ {A = ℕ} 0 1 = cc (rw (p, q) at e) in omega arith)
+      | it false q ↦ ltb-false levels d q
+    ]
+  ]
 
   on-depth : (c : Cursor) (d : ℕ) → (d ≡ 0 → ⊥)
-    → onDepth m spent d c ≡ told (settled m spent (checks m d (frames (c .levels) d)) (frames (c .levels) d) (c .opened))
+      → onDepth m spent d c ≡ told (settled m spent (checks m d (frames (c .levels) d)) (frames (c .levels) d) (c .opened))
   on-depth c zero h = absurd (h refl)
   on-depth c (suc d) h = refl
 
@@ -101,7 +113,7 @@ module _ (m : Memory) (spent : ℕ → Bool) where
     step-end e d = ap (λ x. onDepth m spent x c) (sym d) ∙ ap (λ k. onKept m spent k c) (sym e)
 
     pub step-checked : (j : Judged) → c .refusal ≡ Nothing → (c .depth ≡ 0 → ⊥) → checks m (c .depth) (frames (c .levels) (c .depth)) ≡ j
-      → told (settled m spent j (frames (c .levels) (c .depth)) (c .opened)) ≡ stepOf m spent c
+        → told (settled m spent j (frames (c .levels) (c .depth)) (c .opened)) ≡ stepOf m spent c
     unfolding stepOf
     step-checked j e d q =
         ap (λ x. told (settled m spent x (frames (c .levels) (c .depth)) (c .opened))) (sym q)
