@@ -87,3 +87,93 @@ def entry_at(node, at):
     if length < 16 or length > remains:
         raise Refused(8)
     return node.bytes[at : at + length]
+
+
+def vcn_of(entry):
+    """The subnode VCN: None, 9, or the number."""
+    if not entry[12] & 1:
+        return None
+    at = max(len(entry) - 8, 16)
+    if at + 8 > len(entry):
+        raise Refused(9)
+    return number(entry, at, 8, signed=True)
+
+
+LEVELS = 8
+
+
+class Cursor:
+    """A listing by steps, in 01's words. Each level: [VCN or None for the root, next start, stage], stage being
+    "fresh", "going", ("due", start of the entry put off) or "ended"."""
+
+    def __init__(self):
+        self.levels, self.opened, self.kept = [[None, 0, "fresh"]], 0, None
+        self.checks = self.reads = 0
+
+    def open(self, directory, vcn):
+        self.checks += 1
+        return directory.open_root() if vcn is None else directory.open_record(vcn)
+
+    def read(self, node, at):
+        self.reads += 1
+        return entry_at(node, at)
+
+    def step(self, directory, allowance):
+        """An entry as (VCN or None, offset, length), "end", or a refusal's number; with the count of records opened."""
+        if self.kept is None and self.levels:
+            try:
+                self.check(directory)
+                return self.walk(directory, allowance), self.opened
+            except Refused as refused:
+                self.kept, self.levels = refused.number, []
+        return ("end" if self.kept is None else self.kept), self.opened
+
+    def check(self, directory):
+        directory.open_root()
+        if len(self.levels) > LEVELS:
+            raise Refused(11)
+        for vcn, _, stage in self.levels:
+            node = self.open(directory, vcn)
+            if stage[0] == "due":
+                self.read(node, stage[1])
+
+    def walk(self, directory, allowance):
+        while self.levels:
+            level = self.levels[-1]
+            vcn, at, stage = level
+            if stage == "ended":
+                self.levels.pop()
+                continue
+            node = self.open(directory, vcn)
+            if stage[0] == "due":
+                entry = self.read(node, stage[1])
+                level[2] = "going"
+                return vcn, stage[1], len(entry)
+            if stage == "fresh":
+                level[1], level[2] = node.start, "going"
+                at = node.start
+            if at >= node.used:
+                self.levels.pop()
+                continue
+            entry = self.read(node, at)
+            last, subnode = entry[12] & 2, vcn_of(entry)
+            level[1] = at + len(entry)
+            if subnode is None:
+                if not last:
+                    return vcn, at, len(entry)
+                self.levels.pop()
+                continue
+            level[2] = "ended" if last else ("due", at)
+            self.enter(directory, subnode, allowance)
+        return "end"
+
+    def enter(self, directory, vcn, allowance):
+        if not directory.pool:
+            raise Refused(10)
+        if len(self.levels) >= LEVELS:
+            raise Refused(11)
+        if self.opened >= allowance:
+            raise Refused(12)
+        node = self.open(directory, vcn)
+        self.opened += 1
+        self.levels.append([vcn, node.start, "going"])

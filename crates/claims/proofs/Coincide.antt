@@ -38,6 +38,8 @@ use Rattle.index_node.proofs.open_node.Reads as open-node
 use Rattle.index_node.proofs.node_bytes.Reads as node-bytes
 use Rattle.index_node.proofs.next_entry.Reads as next-entry
 use Rattle.index_node.proofs.place_bytes.Reads as place-bytes
+use Rattle.index.proofs.new_cursor.Reads as new-cursor
+use Rattle.index.proofs.step.Reads as step
 use Rattle.file_name.proofs.read_file_name.Reads as read-file-name
 use Rattle.file_name.proofs.name.Reads as name
 
@@ -149,6 +151,12 @@ one-next-entry l a x y s t = same
 
 pub one-place-bytes : Coincide place-bytes.Post (λ l x. now x)
 one-place-bytes l a x y s t = same
+
+pub one-new-cursor : Coincide new-cursor.Post (λ l x. x)
+one-new-cursor l a x y s t = same
+
+pub one-step : Coincide step.Post (λ l x. x)
+one-step l a x y s t = same
 
 pub one-read-file-name : Coincide read-file-name.Post (λ l x. x)
 one-read-file-name l a x y s t = same

@@ -1,4 +1,5 @@
 pub mod Bench
 pub mod Coincide
 pub mod Leaves
+pub mod Listing
 pub mod Nodes

@@ -1,4 +1,6 @@
 pub mod Bench
 pub mod Coincide
+pub mod Contract
 pub mod Leaves
+pub mod Listing
 pub mod Nodes

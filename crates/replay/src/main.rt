@@ -2,6 +2,9 @@
 // A case: the size u32 of what follows, at most 65,536; operation u8, node u8 (0 root, 1 record), label length u16, position u32,
 // VCN i64, cluster size u32, root length u32, pool length u32; then the label, the root and the pool.
 ghost use Prim.Native.Nat.{_<_};
+use index::Answer;
+use index::Cursor;
+use index_allocation::Block;
 use index_node::Next;
 use index_node::Node;
 use index_node::View;
@@ -94,39 +97,119 @@ fn run_node<'a>(case: &[u8], root: &'a [u8], pool: &'a [u8]) {
     }
 }
 
-fn run_case(case: &[u8]) {
+fn print_node(node: Node) {
+    match node {
+        Node::Root => print(b"root"),
+        Node::Record(vcn) => match index_allocation::block_number(vcn) {
+            Block::Number(n) => print_number(b"", n),
+            Block::Refused(_) => print(b"-"),
+        },
+    }
+}
+
+// An entry: its node, offset, length, and the count of records opened.
+fn print_answer(a: Answer) {
+    match a {
+        Answer::Entry { place, opened } => {
+            let node = place.node;
+            print_node(node);
+            print_number(b" ", place.at);
+            print_number(b" ", place.size);
+            print_number(b" opened ", opened as usize);
+        }
+        Answer::Refused { refusal, opened } => {
+            print_refusal(refusal);
+            print_number(b" opened ", opened as usize);
+        }
+        Answer::End(opened) => print_number(b"end opened ", opened as usize),
+    }
+}
+
+// Operation 3 begins a listing, and operation 4 goes on with the one before over this case's memory; the VCN is the allowance,
+// the position the number of steps.
+fn run_steps<'a>(case: &[u8], root: &'a [u8], pool: &'a [u8], c: Cursor) -> Cursor {
+    let cluster = number_at(case, 16);
+    let allowance = le::le64(case, 8);
+    let steps = number_at(case, 4);
+    let mut cur = c;
+    let mut k: usize = 0;
+    while k < steps {
+        let stepped = index::step(root, pool, cluster, allowance, cur);
+        let answer = stepped.answer;
+        cur = stepped.cursor;
+        print(b"\n    ");
+        print_answer(answer);
+        k += 1;
+    }
+    cur
+}
+
+fn run_operation<'a>(case: &[u8], root: &'a [u8], pool: &'a [u8], c: Cursor) -> Cursor {
+    let operation = le::le16(case, 0) % 256;
+    if operation == 3 {
+        return run_steps(case, root, pool, index::new_cursor());
+    }
+    if operation == 4 {
+        return run_steps(case, root, pool, c);
+    }
+    run_node(case, root, pool);
+    c
+}
+
+fn run_case(case: &[u8], c: Cursor) -> Cursor {
     let label = wide16(le::le16(case, 2));
     let root = number_at(case, 20);
     let pool = number_at(case, 24);
     print(cut(case, 28, label));
     print(b": ");
     let rest = cut(case, 28 + label, root + pool);
-    run_node(case, cut(rest, 0, root), cut(rest, root, pool));
+    let after = run_operation(case, cut(rest, 0, root), cut(rest, root, pool), c);
     print(b"\n");
+    after
 }
 
-// One case from standard input into buf; false where there is no whole one left.
-fn run_next(buf: &mut [u8]) -> bool {
+struct Ran {
+    whole: bool,
+    cursor: Cursor,
+}
+
+// One case from standard input into buf; not whole where there is none left.
+fn run_next(buf: &mut [u8], c: Cursor) -> Ran {
     let mut head = [0u8; 4];
     if io::read_full(0, &mut head) != 4 {
-        return false;
+        return Ran {
+            whole: false,
+            cursor: c,
+        };
     }
     let size = number_at(&head, 0);
     if buf.len() < size {
-        return false;
+        return Ran {
+            whole: false,
+            cursor: c,
+        };
     }
     if io::read_full(0, &mut buf[0..size]) != size {
-        return false;
+        return Ran {
+            whole: false,
+            cursor: c,
+        };
     }
-    run_case(&buf[0..size]);
-    true
+    let after = run_case(&buf[0..size], c);
+    Ran {
+        whole: true,
+        cursor: after,
+    }
 }
 
 fn main() {
     let mut buf = io::large_buffer();
+    let mut cur = index::new_cursor();
     let mut cases: usize = 0;
     while cases < 100000 {
-        if run_next(&mut buf) {
+        let ran = run_next(&mut buf, cur);
+        cur = ran.cursor;
+        if ran.whole {
             cases += 1;
         } else {
             return;

@@ -8,13 +8,16 @@ use Rattle.replay.proofs.main.Statement.{statement}
 use Rattle.replay.proofs.main.Tie as tie
 
 abbrev Inv-loop : tie.InvT-loop
-Inv-loop buf₀ cases₀ buf cases = 65536 ≡ length buf
+Inv-loop buf₀ cur₀ cases₀ buf cur cases = 65536 ≡ length buf
 
 abbrev μ-loop : tie.MeasureT-loop
-μ-loop buf₀ cases₀ buf cases = 100000 - cases
+μ-loop buf₀ cur₀ cases₀ buf cur cases = 100000 - cases
 
 large-buffer-requires : tie.Need-large-buffer-requires Inv-loop μ-loop
 large-buffer-requires c κs = search needs
+
+new-cursor-requires : tie.Need-new-cursor-requires Inv-loop μ-loop
+new-cursor-requires c κs = search needs
 
 loop-holds : tie.Need-loop-holds Inv-loop μ-loop
 loop-holds c = search needs
@@ -47,6 +50,7 @@ main-spec =
     Inv-loop
     μ-loop
     large-buffer-requires
+    new-cursor-requires
     loop-holds
     slice-aggregate-run-next
     run-next-requires
