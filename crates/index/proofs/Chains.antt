@@ -18,7 +18,7 @@ use Rattle.index_node.specs.Memory.{Memory, viewBytes}
 use Rattle.index_node.specs.Node.{viewOf}
 use Rattle.index_node.proofs.Laws.{opened}
 use Rattle.index.specs.Entries.{Entry, entryOf, metIn, Look, past, bad, met, lookIn, metView, metAt, lookView, lookAt}
-use Rattle.index.specs.Entries.{Entries, next, after, rolled, roll, entriesFrom, usedOr, bound, entriesAt}
+use Rattle.index.specs.Entries.{Entries, next, endOf, rolled, roll, entriesFrom, usedOr, bound, entriesAt}
 
 -- an entry met at a position: before the used end, a byte long at least, the same when it is due, its node fine, its place there
 pub record Sees (m : Memory) (node : Node) (at : ℕ) (e : Entry) : Type 0 where
@@ -97,7 +97,7 @@ due-begun m node at e h = elim (look (viewOf m node)) [
 ]
 
 -- a node's first entry counts, and what follows it
-roll-by : (t : Look) (f g : ℕ → Entries) → ((e : Entry) → t ≡ met e → f (after e) ≡ g (after e)) → roll t f ≡ roll t g
+roll-by : (t : Look) (f g : ℕ → Entries) → ((e : Entry) → t ≡ met e → f (endOf (e .place)) ≡ g (endOf (e .place))) → roll t f ≡ roll t g
 roll-by past f g h = refl
 roll-by (bad r) f g h = refl
 roll-by (met e) f g h = on (e .final)
@@ -114,10 +114,10 @@ enough zero g m node at p q = absurd (omega arith)
 enough (suc f) zero m node at p q = absurd (omega arith)
 enough (suc f) (suc g) m node at p q = roll-by (lookAt m node at) (entriesFrom f m node) (entriesFrom g m node) λ e h.
     let s = sees m node at e h in
-    enough f g m node (after e) (omega (arith, s .is-at)) (omega (arith, s .is-at))
+    enough f g m node (endOf (e .place)) (omega (arith, s .is-at)) (omega (arith, s .is-at))
 
 pub unroll : (m : Memory) (node : Node) (at : ℕ) → entriesAt m node at ≡ roll (lookAt m node at) (entriesAt m node)
 unfolding entriesAt entriesFrom
 unroll m node at = roll-by (lookAt m node at) (entriesFrom (bound m node) m node) (entriesFrom (suc (bound m node)) m node) λ e h.
     let s = sees m node at e h in
-    enough (bound m node) (suc (bound m node)) m node (after e) (omega (arith, s .is-at)) (omega (arith, s .is-at))
+    enough (bound m node) (suc (bound m node)) m node (endOf (e .place)) (omega (arith, s .is-at)) (omega (arith, s .is-at))

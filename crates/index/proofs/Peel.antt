@@ -24,7 +24,7 @@ use Rattle.index_node.specs.Node.{viewOf}
 use Rattle.index.specs.declared.Stage.{Stage}
 use Rattle.index.specs.declared.Stage.the-variants.{Fresh, Going, Due, Ended}
 use Rattle.index.specs.declared.Level.{Level}
-use Rattle.index.specs.Entries.{Entry, Entries, Look, past, bad, met, lookAt, metAt, after, rolled, roll, entriesAt}
+use Rattle.index.specs.Entries.{Entry, Entries, Look, past, bad, met, lookAt, metAt, endOf, rolled, roll, entriesAt}
 use Rattle.index.specs.Walk.{levels, Dir, dirOf, declined, opened, opening, unseen}
 use Rattle.index.specs.Listing.{Listing, done, stop, item, andThen, listOpened, listSub, listIn, list}
 use Rattle.index.specs.Step.{levelOf, Outcome, yields, ends, refuses, putOff, close, enter, visit, descend, leftBelow}
@@ -138,7 +138,7 @@ module _ (m : Memory) (spent : ℕ → Bool) where
       unfolding remaining andThen
       off-ended x = refl
 
-      off-due : (x : ℕ) → andThen (item e x (listAt left (e .place .node) (after e) x)) (remaining ls)
+      off-due : (x : ℕ) → andThen (item e x (listAt left (e .place .node) (endOf (e .place)) x)) (remaining ls)
           ≡ remaining (putOff false (e .place) ∷ ls) x
       unfolding remaining andThen
       off-due x = let l : leftBelow ls ≡ left = omega arith in rw (s .due, l)
@@ -162,12 +162,12 @@ module _ (m : Memory) (spent : ℕ → Bool) where
         is-place = refl;
         same = rw (s .due);
         few = omega arith;
-        fine = fine-with ls fine (e .place .node) (after e) Going begun;
+        fine = fine-with ls fine (e .place .node) (endOf (e .place)) Going begun;
       }
 
       fine-off : (b : Bool) → judgeAll m (putOff b (e .place) ∷ ls) ≡ Judged.Fine
-      fine-off true = fine-with ls fine (e .place .node) (after e) Ended begun
-      fine-off false = fine-with ls fine (e .place .node) (after e) (Due (e .place .at)) (rw (s .due))
+      fine-off true = fine-with ls fine (e .place .node) (endOf (e .place)) Ended begun
+      fine-off false = fine-with ls fine (e .place .node) (endOf (e .place)) (Due (e .place .at)) (rw (s .due))
 
       enters : Down left → (b : Part ℤ) (o : ℕ)
           → Right (andThen (listSub (dirOf m) spent left (list (dirOf m) spent left) b o) (remaining (putOff (e .final) (e .place) ∷ ls)))

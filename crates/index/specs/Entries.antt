@@ -78,13 +78,13 @@ pub data Entries : Type 0 where
   last : Entry → Entries
   next : Entry → Entries → Entries
 
--- entries follow one another by their lengths
-abbrev pub after : Entry → ℕ
-after e = e .place .at + e .place .size
+-- entries follow one another by their lengths: where the one after this begins
+abbrev pub endOf : Place → ℕ
+endOf p = p .at + p .size
 
 abbrev pub rolled : Bool → Entry → (ℕ → Entries) → Entries
 rolled true e rest = last e
-rolled false e rest = next e (rest (after e))
+rolled false e rest = next e (rest (endOf (e .place)))
 
 abbrev pub roll : Look → (ℕ → Entries) → Entries
 roll past rest = over

@@ -26,7 +26,7 @@ use Rattle.index.specs.declared.Cursor.{Cursor}
 use Rattle.index.specs.declared.Answer.{Answer}
 use Rattle.index.specs.declared.Answer.the-variants as Answer
 use Rattle.index.specs.declared.Stepped.{Stepped}
-use Rattle.index.specs.Entries.{Entry, Look, past, bad, met, lookAt, metAt}
+use Rattle.index.specs.Entries.{Entry, Look, past, bad, met, endOf, lookAt, metAt}
 use Rattle.index.specs.Walk.{levels, dirOf, Opened, declined, opened, opening, unseen}
 use Rattle.index.specs.Listing.{Listing, done, stop, item}
 
@@ -59,19 +59,15 @@ pub data Outcome : Type 0 where
   ends : ℕ → Outcome
   refuses : Refusal → ℕ → Outcome
 
--- where a node goes on after an entry
-abbrev pub past-it : Place → ℕ
-past-it p = p .at + p .size
-
 -- an entry whose subnode is entered: put off; after a LAST_ENTRY the node has ended
 abbrev pub putOff : Bool → Place → Level
-putOff true p = levelOf (p .node) (past-it p) Ended
-putOff false p = levelOf (p .node) (past-it p) (Due (p .at))
+putOff true p = levelOf (p .node) (endOf p) Ended
+putOff false p = levelOf (p .node) (endOf p) (Due (p .at))
 
 -- an entry whose subnode is done: yielded; after a LAST_ENTRY the walk goes on above
 abbrev pub close : Bool → Place → ℕ → List Level → (ℕ → Outcome) → Outcome
 close true p o ls up = up o
-close false p o ls up = yields p o (levelOf (p .node) (past-it p) Going ∷ ls)
+close false p o ls up = yields p o (levelOf (p .node) (endOf p) Going ∷ ls)
 
 -- down opens a record and goes on in it; up goes on above
 abbrev pub enter : (down : ℤ → ℕ → List Level → (ℕ → Outcome) → Outcome) → Part ℤ → ℕ → List Level → (ℕ → Outcome) → Outcome

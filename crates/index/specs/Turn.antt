@@ -32,13 +32,13 @@ use Rattle.index.specs.declared.Start.the-variants as Start
 use Rattle.index.specs.declared.Next.{Next}
 use Rattle.index.specs.declared.Next.the-variants.{Again, Says}
 use Rattle.index.specs.declared.Turned.{Turned}
-use Rattle.index.specs.Entries.{Entry, Look, past, bad, met, after, lookAt, metAt}
+use Rattle.index.specs.Entries.{Entry, Look, past, bad, met, endOf, lookAt, metAt}
 use Rattle.index.specs.Walk.{levels, dirOf, Opened, declined, opened, opening, unseen}
-use Rattle.index.specs.Step.{levelOf, frames, cursorOf, Outcome, yields, ends, refuses, past-it, putOff, yieldDue, told}
+use Rattle.index.specs.Step.{levelOf, frames, cursorOf, Outcome, yields, ends, refuses, putOff, yieldDue, told}
 
 -- what the code shows of an entry that is met, of one that is due, of a record that is opened
 abbrev pub metSays : Entry → Met
-metSays e = record { place = e .place; next = after e; last = e .final; sub = subnodeSays (e .sub) }
+metSays e = record { place = e .place; next = endOf (e .place); last = e .final; sub = subnodeSays (e .sub) }
 
 abbrev pub readSays : Look → Read
 readSays past = Read.Over
