@@ -40,7 +40,7 @@ pub enum Kept {
 }
 
 pub struct Cursor {
-    pub levels: [Level; 8],
+    pub levels: [Level; LEVELS],
     pub depth: usize,
     pub opened: u64,
     pub refusal: Kept,
@@ -246,7 +246,7 @@ fn blank_cursor(opened: u64, refusal: Kept) -> Cursor
         stage: Stage::Fresh,
     };
     Cursor {
-        levels: [l; 8],
+        levels: [l; LEVELS],
         depth: 0,
         opened,
         refusal,
@@ -597,7 +597,7 @@ pub fn new_cursor() -> Cursor
         stage: Stage::Fresh,
     };
     Cursor {
-        levels: [l; 8],
+        levels: [l; LEVELS],
         depth: 1,
         opened: 0,
         refusal: Kept::Nothing,
