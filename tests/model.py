@@ -177,3 +177,76 @@ class Cursor:
         node = self.open(directory, vcn)
         self.opened += 1
         self.levels.append([vcn, node.start, "going"])
+
+
+def key_of(entry):
+    """The key's bytes, or None; 9."""
+    length = number(entry, 10, 2)
+    if length == 0 or entry[12] & 2:
+        return None
+    if 16 + length > len(entry):
+        raise Refused(9)
+    return entry[16 : 16 + length]
+
+
+def name_of(key):
+    """Namespace and units of a key; 18."""
+    if len(key) < 66 or key[65] > 3 or 66 + 2 * key[64] > len(key):
+        raise Refused(18)
+    return key[65], [number(key, 66 + 2 * k, 2) for k in range(key[64])]
+
+
+def parse_capture(s):
+    """A capture's root, cluster size and pool; 26."""
+    if len(s) > 65535:
+        raise Refused(26)
+    fields, at = [], 0
+    while at < len(s):
+        if at + 3 > len(s) or at + 3 + number(s, at + 1, 2) > len(s):
+            raise Refused(26)
+        size = number(s, at + 1, 2)
+        fields.append((s[at], s[at + 3 : at + 3 + size]))
+        at += 3 + size
+    tags = [tag for tag, _ in fields]
+    records = [body for tag, body in fields if tag == 3]
+    if tags == [1, 255]:
+        cluster = 0
+    elif len(tags) > 3 and tags == [1, 2] + [3] * (len(tags) - 3) + [255] and len(fields[1][1]) == 4:
+        cluster = number(fields[1][1], 0, 4)
+    else:
+        raise Refused(26)
+    if fields[-1][1] or len(set(map(len, records))) > 1 or sum(map(len, records)) > 57344:
+        raise Refused(26)
+    return fields[0][1], cluster, b"".join(records)
+
+
+def entry_line(entry):
+    reference = number(entry, 0, 8)
+    try:
+        key = key_of(entry)
+        text = "- -"
+        if key is not None:
+            namespace, units = name_of(key)
+            text = f"{namespace} {''.join(f'{u:04X}' for u in units) or '.'}"
+    except Refused:
+        text = "- -"
+    return f"{reference % 2**48} {reference >> 48} {text}\n"
+
+
+def capture_output(s):
+    """What the capture program prints."""
+    lines = ["entries\n"]
+    try:
+        root, cluster, pool = parse_capture(s)
+    except Refused as refused:
+        return "".join(lines + [f"refused {refused.number}\n"])
+    directory, cursor = Directory(root, pool, cluster), Cursor()
+    while True:
+        answer, opened = cursor.step(directory, 64)
+        if answer == "end":
+            return "".join(lines + [f"opened {opened}\n"])
+        if not isinstance(answer, tuple):
+            return "".join(lines + [f"refused {answer}\n"])
+        vcn, at, size = answer
+        holder = root if vcn is None else pool[directory.place(vcn) * directory.size :]
+        lines.append(entry_line(holder[at : at + size]))
