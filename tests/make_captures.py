@@ -7,7 +7,8 @@ from pathlib import Path
 from build import entry, key, last, record, root
 from model import capture_output
 
-HERE = Path(__file__).resolve().parent.parent / "crates/replay_captures"
+TOP = Path(__file__).resolve().parent.parent
+HERE = TOP / "crates/replay_captures"
 captures = []
 
 
@@ -115,7 +116,14 @@ def damaged():
         add(good[:at] + bytes([rng.choice([0, 1, 2, 3, 16, 255, rng.randrange(256)])]) + good[at + 1 :])
 
 
-for part in (lines, refusals, many_records, grammar, damaged):
+def real():
+    """Captures of real volumes, whose expected output stands beside them."""
+    for path in sorted((TOP / "examples/real").glob("*.capture")):
+        add(path.read_bytes())
+        assert capture_output(captures[-1]) == path.with_suffix(".expected").read_text(), path
+
+
+for part in (lines, refusals, many_records, grammar, damaged, real):
     part()
 (HERE / "stdin").write_bytes(b"".join(struct.pack("<I", len(c)) + c for c in captures))
 (HERE / "stdout").write_text("".join(capture_output(c) for c in captures))

@@ -2,7 +2,7 @@
 -- The rows speak of the contracts as the sources state them, and all go by one law.
 use mathlib.Core.Path.{_≡_, sym, _∙_}
 use denote.Ref.{now}
-use Rattle.claims.specs.Coincide.{Coincide}
+use Rattle.claims.specs.Coincide.{Coincide, LeavesOne}
 use Rattle.le.proofs.le16.Reads as le16
 use Rattle.le.proofs.le32.Reads as le32
 use Rattle.le.proofs.le48.Reads as le48
@@ -42,6 +42,15 @@ use Rattle.index.proofs.new_cursor.Reads as new-cursor
 use Rattle.index.proofs.step.Reads as step
 use Rattle.file_name.proofs.read_file_name.Reads as read-file-name
 use Rattle.file_name.proofs.name.Reads as name
+use Rattle.capture.proofs.parse.Reads as parse
+use Rattle.capture.proofs.root_bytes.Reads as root-bytes
+use Rattle.capture_line.proofs.line_length.Reads as line-length
+use Rattle.capture_line.proofs.line_byte.Reads as line-byte
+use Rattle.capture_line.proofs.opened_length.Reads as opened-length
+use Rattle.capture_line.proofs.opened_byte.Reads as opened-byte
+use Rattle.capture_line.proofs.refused_length.Reads as refused-length
+use Rattle.capture_line.proofs.refused_byte.Reads as refused-byte
+use Rattle.capture.proofs.copy_pool.Reads as copy-pool
 
 -- two that equal one definition are equal
 same : {A : Type 0} {x y d : A} → x ≡ d → y ≡ d → x ≡ y
@@ -163,3 +172,34 @@ one-read-file-name l a x y s t = same
 
 pub one-name : Coincide name.Post (λ l x. now x)
 one-name l a x y s t = same
+
+pub one-parse : Coincide parse.Post (λ l x. x)
+one-parse l a x y s t = same
+
+pub one-root-bytes : Coincide root-bytes.Post (λ l x. now x)
+one-root-bytes l a x y s t = same
+
+pub one-line-length : Coincide line-length.Post (λ l x. x)
+one-line-length l a x y s t = same
+
+pub one-line-byte : Coincide line-byte.Post (λ l x. x)
+one-line-byte l a x y s t = same
+
+pub one-opened-length : Coincide opened-length.Post (λ l x. x)
+one-opened-length l a x y s t = same
+
+pub one-opened-byte : Coincide opened-byte.Post (λ l x. x)
+one-opened-byte l a x y s t = same
+
+pub one-refused-length : Coincide refused-length.Post (λ l x. x)
+one-refused-length l a x y s t = same
+
+pub one-refused-byte : Coincide refused-byte.Post (λ l x. x)
+one-refused-byte l a x y s t = same
+
+-- its answer, and every byte of the pool that it was lent
+pub one-copy-pool : Coincide copy-pool.Post (λ l x. x)
+one-copy-pool l a x y s t p q = same (p .0) (q .0)
+
+pub one-copied-pool : LeavesOne copy-pool.Post (λ l s. now (s .1 .0))
+one-copied-pool l a x y s t p q = same (p .1) (q .1)
