@@ -24,7 +24,8 @@ use Rattle.file_name.specs.declared.FileName.the-variants as FileName
 use Rattle.file_name.specs.Name.{headerSize, fileNameOf, nameOf}
 use Rattle.file_name.proofs.Laws.{within}
 use Rattle.capture_line.specs.Digits.{digitAt, nameLength}
-use Rattle.capture_line.specs.Text.{space, newline, placesIn, places, digits, decimal, hexUnit, hexUnits, nameText, unreadable, keyText, keyPartText, lineOf, openedLine, refusedLine}
+use Rattle.capture_line.specs.Text.{space, newline, placesIn, places, digits, decimal, hexUnit, hexUnits, nameText, unreadable}
+use Rattle.capture_line.specs.Text.{keyText, keyPartText, lineOf, openedLine, refusedLine}
 
 -- places: one for less than 10, one more for each division
 last-place : (m n : ℕ) → n < 10 → placesIn m n ≡ 1

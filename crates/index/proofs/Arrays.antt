@@ -72,13 +72,8 @@ set-push : (s : List Level) (d : ℕ) (l : Level) → s ≡ fill (frames s d) �
 unfolding fill
 set-push s d l e = ap (λ (t : List Level). set t d l) e ∙ rw (frames-length s d)
 
-cursor-eq : (ls ms : List Level) (d f o : ℕ) (r t : Kept) → ls ≡ ms → d ≡ f → r ≡ t → _≡_ {A = Cursor} (record { levels = ls; depth = d; opened = o; refusal = r }) (record {
-  levels = ms;
-  depth = f;
-  opened = o;
-  refusal =
-      t;
-})
+cursor-eq : (ls ms : List Level) (d f o : ℕ) (r t : Kept) → ls ≡ ms → d ≡ f → r ≡ t
+    → _≡_ {A = Cursor} (record { levels = ls; depth = d; opened = o; refusal = r }) (record { levels = ms; depth = f; opened = o; refusal = t })
 cursor-eq ls ms d f o r t p q s = λ i. record { levels = p i; depth = q i; opened = o; refusal = s i }
 
 module _ (c : Cursor) (t : Tidy c) where

@@ -22,7 +22,8 @@ use Rattle.index.specs.declared.Stage.the-variants.{Fresh, Going, Due, E
 use Rattle.index.specs.declared.Level.{Level}
 use Rattle.index.specs.Entries.{Entry, Look, past, bad, met, lookAt, metAt}
 use Rattle.index.specs.Walk.{levels, dirOf, Opened, declined, opened, opening, unseen}
-use Rattle.index.specs.Step.{levelOf, Outcome, yields, ends, refuses, putOff, close, enter, visit, goDown, descend, leftBelow, begin, yieldDue, goOn, settle}
+use Rattle.index.specs.Step.{levelOf, Outcome, yields, ends, refuses, putOff, close, enter, visit, goDown, descend}
+use Rattle.index.specs.Step.{leftBelow, begin, yieldDue, goOn, settle}
 use Rattle.index.specs.Turn.{metSays, readSays, startSays, Move, again, out, closeM, openM, tryM, subM, readM, visitM, beginM, levelM, turnM}
 use Rattle.index.proofs.Chains.{sees}
 use Rattle.index.proofs.Reading.{opening-left}

@@ -37,7 +37,8 @@ returns-3 : tie.Need-returns-3
 unfolding lineOf
 returns-3 c =
     rw (← c .before .before .before .before .record-number .ensures)
-    (behind-number _ _ _ (c .before .before .before .count-places .ensures .0) _ _ _ (c .before .before .if1 .left) (c .before .if2 .left) (c .second-byte .ensures))
+    (behind-number _ _ _ (c .before .before .before .count-places .ensures .0) _ _ _ (c .before .before .if1 .left)
+    (c .before .if2 .left) (c .second-byte .ensures))
 
 pub line-byte-spec : {M : Type 1} → statement M
 line-byte-spec =

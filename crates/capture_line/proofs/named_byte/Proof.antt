@@ -31,7 +31,8 @@ name-byte-requires c κs = search needs
 returns-3 : tie.Need-returns-3
 returns-3 c =
     rw (← c .before .before .before .before .wide8 .ensures)
-    (behind-number _ _ _ (c .before .before .before .count-places .ensures .0) _ _ _ (c .before .before .if1 .left) (c .before .if2 .left) (c .name-byte .ensures))
+    (behind-number _ _ _ (c .before .before .before .count-places .ensures .0) _ _ _ (c .before .before .if1 .left)
+    (c .before .if2 .left) (c .name-byte .ensures))
 
 pub named-byte-spec : {M : Type 1} → statement M
 named-byte-spec =

@@ -32,7 +32,8 @@ third-byte-requires c κs = search needs
 returns-3 : tie.Need-returns-3
 returns-3 c =
     rw (← c .before .before .before .before .sequence .ensures)
-    (behind-number _ _ _ (c .before .before .before .count-places .ensures .0) _ _ _ (c .before .before .if1 .left) (c .before .if2 .left) (c .third-byte .ensures))
+    (behind-number _ _ _ (c .before .before .before .count-places .ensures .0) _ _ _ (c .before .before .if1 .left)
+    (c .before .if2 .left) (c .third-byte .ensures))
 
 pub second-byte-spec : {M : Type 1} → statement M
 second-byte-spec =
