@@ -3,4 +3,5 @@ pub mod Capture
 pub mod Coincide
 pub mod Leaves
 pub mod Listing
+pub mod Lookup
 pub mod Nodes

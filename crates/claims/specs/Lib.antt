@@ -4,4 +4,5 @@ pub mod Coincide
 pub mod Contract
 pub mod Leaves
 pub mod Listing
+pub mod Lookup
 pub mod Nodes

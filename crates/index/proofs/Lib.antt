@@ -2,6 +2,7 @@ pub mod Arrays
 pub mod Chains
 pub mod More
 pub mod Moves
+pub mod Openings
 pub mod Peel
 pub mod Reading
 pub mod Run

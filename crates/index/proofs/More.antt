@@ -20,6 +20,7 @@ use Rattle.index.specs.Entries.{Entry, Entries, over, broken, last, next
 use Rattle.index.specs.Walk.{levels, Dir, dirOf, Opened, declined, opened, opening, unseen, allow, never}
 use Rattle.index.specs.Listing.{Listing, done, stop, item, andThen, listOpened, listSub, listIn, list, listRoot, listing}
 use Rattle.index.specs.Step.{newCursor, answerAt, sayAt}
+use Rattle.index.proofs.Openings.{OrSpent, same, spent, opening-wider}
 use Rattle.index.proofs.Run.{run}
 
 -- the first is the second, or the second cut off by 12
@@ -41,25 +42,17 @@ upto-opened : (t : Opened) (o : ℕ) (f g : Entries → ℕ → Listing) → ((e
 upto-opened (declined r) o f g h = up-stop r o
 upto-opened (opened number start es) o f g h = h es (o + 1)
 
-module _ (d : Dir) (o : ℕ) (f g : Entries → ℕ → Listing) (h : (es : Entries) (x : ℕ) → Upto (f es x) (g es x)) where
-  -- where no record may be opened any more, 12 cuts, unless the opening is refused before it
-  upto-spent : (left : ℕ) (vcn : ℤ) (q : Bool) → Upto (listOpened f (opening d left true unseen vcn) o) (listOpened g (opening d left q unseen vcn) o)
-  unfolding opening
-  upto-spent zero vcn q = elim (look (d .empty)) [ it true p ↦ rw p (up-stop _ o) | it false p ↦ rw p (up-stop _ o) ]
-  upto-spent (suc left) vcn q = elim (look (d .empty)) [ it true p ↦ rw p (up-stop _ o) | it false p ↦ rw p (cut o _) ]
-
-  upto-open : (left : ℕ) (vcn : ℤ) (p q : Bool) → (q ≡ true → p ≡ true)
-      → Upto (listOpened f (opening d left p unseen vcn) o) (listOpened g (opening d left q unseen vcn) o)
-  upto-open left vcn true q w = upto-spent left vcn q
-  upto-open left vcn false true w = absurd (let e = w refl in let z : _≡_ {A = ℕ} 0 1 = cc in omega arith)
-  upto-open left vcn false false w = upto-opened (opening d left false unseen vcn) o f g h
+module _ (o : ℕ) (f g : Entries → ℕ → Listing) (h : (es : Entries) (x : ℕ) → Upto (f es x) (g es x)) where
+  upto-open : (s t : Opened) → OrSpent s t → Upto (listOpened f s o) (listOpened g t o)
+  upto-open s t (same e) = rw e (upto-opened t o f g h)
+  upto-open s t (spent e) = rw e (cut o _)
 
 module _ (d : Dir) (a b : ℕ → Bool) (wider : (o : ℕ) → b o ≡ true → a o ≡ true) where
   module _ (left : ℕ) (f g : Entries → ℕ → Listing) (h : (es : Entries) (x : ℕ) → Upto (f es x) (g es x)) where
     upto-sub : (s : Part ℤ) (o : ℕ) → Upto (listSub d a left f s o) (listSub d b left g s o)
     upto-sub absent o = up-done o
     upto-sub (refused r) o = up-stop r o
-    upto-sub (present vcn) o = upto-open d o f g h left vcn (a o) (b o) (wider o)
+    upto-sub (present vcn) o = upto-open o f g h _ _ (opening-wider d vcn left (a o) (b o) (wider o))
 
     upto-in : (es : Entries) (o : ℕ) → Upto (listIn d a left f es o) (listIn d b left g es o)
     unfolding listIn

@@ -1,0 +1,33 @@
+-- The promises of the lookup's definition, from the laws of its crate.
+-- The examples are computed, as those of the bench are.
+use mathlib.Core.Path.{refl}
+use Rattle.ordering.specs.Order.{order, lexical}
+use Rattle.upcase_table.specs.Names.{unitsOf}
+use Rattle.le.specs.Le.{bytesAt, leAt, signedAt}
+use Rattle.index_allocation.specs.Vcn.{blockOf}
+use Rattle.index_entry.specs.Entry.{entryAt, keyOf, subnodeOf}
+use Rattle.file_reference.specs.Reference.{referenceOf}
+use Rattle.file_name.specs.Name.{fileNameOf, nameOf}
+use Rattle.index_allocation.specs.Place.{recordIn, recordAt}
+use Rattle.index_root.specs.Root.{rootOf}
+use Rattle.index_root.specs.Sizes.{allowed, sizesJudged, poolJudged, rootIn}
+use Rattle.index_record.specs.Record.{recordOf}
+use Rattle.index_node.specs.Memory.{partOf, recordBytes, viewBytes, placeBytes}
+use Rattle.index_node.specs.Node.{recordView, viewOf}
+use Rattle.index.specs.Entries.{metIn, lookIn, lookAt, entriesFrom, bound, entriesAt}
+use Rattle.index.specs.Walk.{dirOf, opening}
+use Rattle.index_finder.specs.Find.{findIn, find, finding, lookup}
+use Rattle.index_finder.proofs.More.{more-finding, more-lookup}
+use Rattle.claims.specs.Lookup.{Lookups, MoreForLookup, MoreForAnyKind}
+
+pub lookups : Lookups
+unfolding order lexical unitsOf bytesAt leAt signedAt blockOf entryAt keyOf subnodeOf referenceOf fileNameOf nameOf
+    recordIn recordAt rootOf allowed sizesJudged poolJudged rootIn recordOf partOf recordBytes viewBytes placeBytes recordView viewOf
+    metIn lookIn lookAt entriesFrom bound entriesAt dirOf opening findIn find finding lookup
+lookups = (refl, (refl, (refl, (refl, (refl, (refl, (refl, (refl, tt))))))))
+
+pub more-for-lookup : MoreForLookup
+more-for-lookup = more-lookup
+
+pub more-for-any-kind : MoreForAnyKind
+more-for-any-kind K = more-finding
