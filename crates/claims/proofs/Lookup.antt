@@ -1,6 +1,10 @@
 -- The promises of the lookup's definition, from the laws of its crate.
 -- The examples are computed, as those of the bench are.
+use Prim.Native.Nat.{ℕ}
 use mathlib.Core.Path.{refl}
+use mathlib.Core.Option.{none}
+use native.Mathlib.Omega.{arith}
+use borrow.Author.Tests.{lt-leb}
 use Rattle.ordering.specs.Order.{order, lexical}
 use Rattle.upcase_table.specs.Names.{unitsOf}
 use Rattle.le.specs.Le.{bytesAt, leAt, signedAt}
@@ -15,10 +19,11 @@ use Rattle.index_record.specs.Record.{recordOf}
 use Rattle.index_node.specs.Memory.{partOf, recordBytes, viewBytes, placeBytes}
 use Rattle.index_node.specs.Node.{recordView, viewOf}
 use Rattle.index.specs.Entries.{metIn, lookIn, lookAt, entriesFrom, bound, entriesAt}
-use Rattle.index.specs.Walk.{dirOf, opening}
+use Rattle.index.specs.Walk.{dirOf, opening, allow}
 use Rattle.index_finder.specs.Find.{findIn, find, finding, lookup}
 use Rattle.index_finder.proofs.More.{more-finding, more-lookup}
-use Rattle.claims.specs.Lookup.{Lookups, MoreForLookup, MoreForAnyKind}
+use Rattle.index_finder.proofs.Search.{search, lists-tree}
+use Rattle.claims.specs.Lookup.{Lookups, MoreForLookup, MoreForAnyKind, TreeListed, NoneLost}
 
 pub lookups : Lookups
 unfolding order lexical unitsOf bytesAt leAt signedAt blockOf entryAt keyOf subnodeOf referenceOf fileNameOf nameOf
@@ -31,3 +36,9 @@ more-for-lookup = more-lookup
 
 pub more-for-any-kind : MoreForAnyKind
 more-for-any-kind K = more-finding
+
+pub tree-listed : TreeListed
+tree-listed K kind d l es t = lists-tree d kind t 0
+
+pub none-lost : NoneLost
+none-lost K kind sought total d l es t a h s = search d kind sought (allow a) a (λ o b. lt-leb a o b) total t none 0 (omega arith) s

@@ -1,16 +1,22 @@
 -- Lookup: what it answers in 01's examples, and what a larger allowance changes.
-use Prim.Native.Nat.{ℕ, _+_, _≤_}
+use Prim.Native.Nat.{ℕ, suc, _+_, _≤_}
 use mathlib.Core.Path.{_≡_}
 use mathlib.Core.List.{List, [], _∷_, _++_}
+use mathlib.Core.Option.{none}
 use Rattle.refusal.specs.declared.Refusal.the-variants.{AllowanceSpent}
 use Rattle.refusal.specs.Number.{numberOf}
 use Rattle.file_reference.specs.Reference.{referenceOf, recordNumberOf}
 use Rattle.index_node.specs.Memory.{Memory, memory, placeBytes}
-use Rattle.index.specs.Walk.{allow}
+use Rattle.ordering.specs.Total.{Total}
+use Rattle.index.specs.Entries.{Entries}
+use Rattle.index.specs.Walk.{Dir, allow, never}
+use Rattle.index.specs.Listing.{list}
 use Rattle.index_finder.specs.declared.Finding.{Finding}
 use Rattle.index_finder.specs.declared.Finding.the-variants.{Found, NotFound, Refused}
 use Rattle.index_finder.specs.Kind.{Kind}
-use Rattle.index_finder.specs.Find.{finding, lookup}
+use Rattle.index_finder.specs.Find.{find, finding, lookup}
+use Rattle.index_finder.specs.Sorted.{NeverFall}
+use Rattle.index_finder.specs.Tree.{Tree, items, keys, Lists, Searched}
 use Rattle.claims.specs.Bench.{benchTable, bytes, zeros, ending, nodeHeader, recordWith, Row, p, All}
 
 -- entries of record n with the digit n as their name; the second above the record at a VCN
@@ -79,3 +85,14 @@ MoreForAnyKind =
     (K : Type 0) (kind : Kind K) (sought : K) (m : Memory) (a b : ℕ) → a ≤ b
     → ((count : ℕ) → ¬ (finding kind sought m (allow a) ≡ Refused AllowanceSpent count))
     → finding kind sought m (allow b) ≡ finding kind sought m (allow a)
+
+-- the full listing of a tree yields its items, and ends
+abbrev pub TreeListed : Type 1
+TreeListed = (K : Type 0) (kind : Kind K) (d : Dir) (l : ℕ) (es : Entries) (t : Tree d kind l es) → (n : ℕ) × Lists (list d never l es 0) (items d kind t) n
+
+-- over any total comparison, in a tree whose keys never fall, going down as lookup does loses no equal entry
+abbrev pub NoneLost : Type 1
+NoneLost =
+    (K : Type 0) (kind : Kind K) (sought : K) → Total (kind .compare)
+    → (d : Dir) (l : ℕ) (es : Entries) (t : Tree d kind l es) (a : ℕ) → l ≤ suc a → NeverFall kind none (keys d kind t)
+    → Searched kind sought (items d kind t) (keys d kind t) (find kind sought d (allow a) l es 0)

@@ -1,2 +1,4 @@
 pub mod Kind
 pub mod Find
+pub mod Sorted
+pub mod Tree
