@@ -17,7 +17,7 @@ use Rattle.index_root.specs.declared.Judged.the-variants as Judged
 use Rattle.index_allocation.specs.declared.Lies.the-variants as Lies
 use Rattle.index_entry.specs.declared.EntryAt.{EntryAt}
 use Rattle.index_entry.specs.declared.EntryAt.the-variants as EntryAt
-use Rattle.index_entry.specs.Entry.{isLast, entryAt, entrySays, subnodeOf, subnodeSays}
+use Rattle.index_entry.specs.Entry.{isLast, entryAt, entrySays, keyOf, subnodeOf}
 use Rattle.index_entry.proofs.Laws.{entered}
 use Rattle.index_node.specs.declared.Node.{Node}
 use Rattle.index_node.specs.declared.Node.the-variants.{Record}
@@ -42,9 +42,9 @@ clash : {A : Type 0} → _≡_ {A = ℕ} 0 1 → A
 clash e = absurd (omega arith)
 
 module _ (bytes : List ℕ) (view : View) (at : ℕ) where
-  pub read-over : nextIn bytes view at ≡ Next.Over → Read.Over ≡ readSays (lookIn bytes view at)
+  pub look-over : nextIn bytes view at ≡ Next.Over → lookIn bytes view at ≡ past
   unfolding nextIn lookIn metIn
-  read-over h = elim (look (ltb at (view .used))) [
+  look-over h = elim (look (ltb at (view .used))) [
     | it false p ↦ rw p
     | it true p ↦ elim (look (entryAt bytes at)) [
       | it absent q ↦ clash (cc (rw (p, q) at h))
@@ -53,9 +53,9 @@ module _ (bytes : List ℕ) (view : View) (at : ℕ) where
     ]
   ]
 
-  pub read-refused : (r : Refusal) → nextIn bytes view at ≡ Next.Refused r → Read.Refused r ≡ readSays (lookIn bytes view at)
+  pub look-refused : (r : Refusal) → nextIn bytes view at ≡ Next.Refused r → lookIn bytes view at ≡ bad r
   unfolding nextIn lookIn metIn
-  read-refused r h = elim (look (ltb at (view .used))) [
+  look-refused r h = elim (look (ltb at (view .used))) [
     | it false p ↦ clash (cc (rw p at h))
     | it true p ↦ elim (look (entryAt bytes at)) [
       | it absent q ↦ let same = rw (p, q) at h in rw (p, q) (cc)
@@ -65,13 +65,16 @@ module _ (bytes : List ℕ) (view : View) (at : ℕ) where
   ]
 
   -- the entry's own bytes
-  abbrev own : List ℕ
+  abbrev pub own : List ℕ
   own = bytesOf (entryAt bytes at)
 
-  pub read-entry : (p : Place) → nextIn bytes view at ≡ Next.Entry p
-      → Read.Entry (record { place = p; next = at + p .size; last = isLast own; sub = subnodeSays (subnodeOf own) }) ≡ readSays (lookIn bytes view at)
+  abbrev pub seen : Place → Entry
+  seen p = record { place = p; final = isLast own; key = keyOf own; sub = subnodeOf own }
+
+  pub look-entry : (p : Place) → nextIn bytes view at ≡ Next.Entry p
+      → lookIn bytes view at ≡ met (seen p)
   unfolding nextIn lookIn metIn
-  read-entry pl h = elim (look (ltb at (view .used))) [
+  look-entry pl h = elim (look (ltb at (view .used))) [
     | it false p ↦ clash (cc (rw p at h))
     | it true p ↦ elim (look (entryAt bytes at)) [
       | it absent q ↦ clash (cc (rw (p, q) at h))
@@ -83,8 +86,8 @@ module _ (bytes : List ℕ) (view : View) (at : ℕ) where
     ]
   ]
 
-  -- the entry lies in the bytes, so that its end is a number
-  pub read-within : (p : Place) → nextIn bytes view at ≡ Next.Entry p → at + p .size ≤ length bytes
+  -- the entry lies there in the bytes, so that its end is a number
+  pub read-within : (p : Place) → nextIn bytes view at ≡ Next.Entry p → (p .at ≡ at) × (at + p .size ≤ length bytes)
   unfolding nextIn
   read-within pl h = elim (look (ltb at (view .used))) [
     | it false p ↦ clash (cc (rw p at h))
@@ -94,7 +97,7 @@ module _ (bytes : List ℕ) (view : View) (at : ℕ) where
       | it (present e) q ↦
           let same : Next.Entry (record { node = view .node; at = at; size = length e }) ≡ Next.Entry pl = rw (p, q) at h in
           let is : record { node = view .node; at = at; size = length e } ≡ pl = cc in
-          rw (← is) (entered bytes at e q .within)
+          rw (← is) (refl, entered bytes at e q .within)
     ]
   ]
 
