@@ -1,5 +1,6 @@
 -- The answer of a step or a lookup, and a cursor, as numbers: what crosses to C and Rust.
-use Prim.Native.Nat.{ℕ, zero, suc, _+_, _*_, _-_, _^_}
+use Prim.Native.Nat.{ℕ, zero, suc, _+_, _*_, _-_, _^_, _<_}
+use mathlib.Core.Path.{_≡_}
 use mathlib.Core.List.{List, [], _∷_, _++_}
 use mathlib.Core.Bool.{cond}
 use lib.Dec.{leb, eqb}
@@ -213,3 +214,14 @@ cursorFrom w = record {
   opened = getD w 1 0;
   refusal = keptFrom (getD w 2 0);
 }
+
+-- a VCN that 64 bits hold, from -(2 ^ 63) to 2 ^ 63 - 1
+abbrev pub Holds : Node → Type 0
+Holds Root = Unit {0}
+Holds (Record (pos n)) = n < 2 ^ 63
+Holds (Record (negsuc n)) = n < 2 ^ 63
+
+-- a cursor that comes back whole from its words: eight levels, each VCN in 64 bits
+pub record Whole (c : Cursor) : Type 0 where
+  pub eight : length (c .levels) ≡ levels
+  pub vcns : (i : ℕ) → Holds (getD (c .levels) i blank .node)
