@@ -1,4 +1,4 @@
-/* Lists a small directory from C and looks at every number: rt staticlib c_api, then
+/* Lists a small directory from C, looks names up in it, and sees to every number: rt staticlib c_api, then
    cc -std=c99 -Wall -Wextra -pedantic -Iinclude tests/c_api.c target/staticlib/libc_api.a -o target/c_api && target/c_api */
 #include "ntfs_index.h"
 #include <stdio.h>
@@ -8,6 +8,7 @@ enum { RECORD = 512, ROOT_ENTRY = 32, ROOT_LAST = ROOT_ENTRY + 88, ROOT_SIZE = R
 
 static uint8_t root[ROOT_SIZE];
 static uint8_t pool[2 * RECORD];
+static uint16_t table[65536];
 static int faults;
 
 static void put(uint8_t *at, int bytes, uint64_t n)
@@ -71,12 +72,21 @@ static void expect_step(const char *what, uint64_t allowance, uint64_t *cursor, 
     expect(what, answer, wanted, NTFS_ANSWER_WORDS);
 }
 
+static void expect_find(const char *what, uint16_t unit, size_t units, const uint64_t *wanted)
+{
+    uint64_t answer[NTFS_ANSWER_WORDS];
+    memset(answer, 0xFF, sizeof answer);
+    ntfs_find(root, sizeof root, pool, sizeof pool, RECORD, table, units, &unit, 1, 9, answer);
+    expect(what, answer, wanted, NTFS_ANSWER_WORDS);
+}
+
 int main(void)
 {
     static const uint64_t in_root[] = {NTFS_ENTRY, 0, 0, NTFS_ROOT, ROOT_ENTRY, 88};
     static const uint64_t in_pool[] = {NTFS_ENTRY, 0, 1, NTFS_POOL, RECORD + 64, 88};
     static const uint64_t end[] = {NTFS_NONE, 0, 1, 0, 0, 0};
     static const uint64_t spent[] = {NTFS_REFUSED, NTFS_ALLOWANCE_SPENT, 0, 0, 0, 0};
+    static const uint64_t no_table[] = {NTFS_REFUSED, NTFS_TABLE_LENGTH, 0, 0, 0, 0};
     static const uint64_t short_root[] = {NTFS_REFUSED, NTFS_ROOT_TOO_SHORT, 0, 0, 0, 0};
     uint64_t cursor[NTFS_CURSOR_WORDS], fresh[NTFS_CURSOR_WORDS] = {1}, kept[NTFS_CURSOR_WORDS] = {0, 0, 12};
     uint64_t answer[NTFS_ANSWER_WORDS];
@@ -99,6 +109,13 @@ int main(void)
     ntfs_new_cursor(cursor);
     ntfs_step(root, 31, pool, sizeof pool, RECORD, 9, cursor, answer);
     expect("short root", answer, short_root, NTFS_ANSWER_WORDS);
+
+    for (unsigned unit = 0; unit < 65536; unit++)
+        table[unit] = (uint16_t)('a' <= unit && unit <= 'z' ? unit - 32 : unit);
+    expect_find("find b", 'b', 65536, in_root);
+    expect_find("find c", 'c', 65536, in_pool);
+    expect_find("find d", 'd', 65536, end);
+    expect_find("find under a short table", 'b', 65535, no_table);
 
     /* any numbers are safe, and an entry told lies in what holds it */
     uint64_t seed = 1;
