@@ -2,8 +2,8 @@
 use Prim.Native.Nat.{ℕ, zero, suc, _+_, _*_, _-_, _^_, _<_}
 use mathlib.Core.Path.{_≡_}
 use mathlib.Core.List.{List, [], _∷_, _++_}
-use mathlib.Core.Bool.{cond}
-use lib.Dec.{leb, eqb}
+use mathlib.Core.Bool.{Bool, cond}
+use lib.Dec.{leb}
 use lib.IntN.{ℤ, pos, negsuc}
 use lib.ListN.{length, getD, set}
 use Rattle.le.specs.Le.{signed64}
@@ -53,40 +53,51 @@ use Rattle.index.specs.declared.Cursor.{Cursor}
 use Rattle.index.specs.declared.Answer.{Answer}
 use Rattle.index.specs.declared.Answer.the-variants as Answer
 use Rattle.index.specs.Walk.{levels}
-use Rattle.index.specs.Step.{levelOf, blank}
+use Rattle.index.specs.Step.{levelOf, blank, stepOf}
 use Rattle.index_finder.specs.declared.Finding.{Finding}
 use Rattle.index_finder.specs.declared.Finding.the-variants as Finding
 use Rattle.c_api.specs.declared.Span.{Span}
 
--- where the bytes of an entry lie: in the root, 0, or in the pool, 1; from which byte; how many
+-- where the bytes of an entry lie: in the root, 0, or in the pool, 1; from which byte of it; how many
 abbrev pub spanOf : (holder from size : ℕ) → Span
 spanOf holder from size = record { holder = holder; from = from; size = size }
 
--- in a node of len bytes that begins at from; a place that does not lie in its node has no bytes
+-- those of a place in a node of len bytes that begins at from; a place that does not lie in its node has none
 unfoldable pub spanIn : (holder from len at size : ℕ) → Span
 spanIn holder from len at size = cond (leb (at + size) len) (spanOf holder (from + at) size) (spanOf holder 0 0)
 
+-- in a record: it begins at its number times the record size; where the VCN leads nowhere there are none
 abbrev pub spanLies : Lies → (len at size : ℕ) → Span
 spanLies (Lies.Record number) len at size = spanIn 1 (number * len) len at size
 spanLies (Lies.Refused r) len at size = spanOf 1 0 0
 
+-- the root begins at 0
 abbrev pub spanNode : Memory → Node → (at size : ℕ) → Span
 spanNode m Root at size = spanIn 0 0 (length (m .root)) at size
 spanNode m (Record vcn) at size = spanLies (placed m vcn) (recordSizeOf (m .root)) at size
 
+-- by its place
 unfoldable pub placeSpan : Memory → Place → Span
 placeSpan m place = spanNode m (place .node) (place .at) (place .size)
 
--- six numbers: what, refusal, opened, holder, offset, size
+-- the slice that a holder's number names
+abbrev pub heldBy : Memory → ℕ → List ℕ
+heldBy m zero = m .root
+heldBy m (suc n) = m .pool
+
+-- an answer is six numbers: what, refusal, opened, holder, offset, size; what is 1 for an entry
 abbrev pub spanWords : ℕ → Span → List ℕ
 spanWords opened s = 1 ∷ 0 ∷ opened ∷ s .holder ∷ s .from ∷ s .size ∷ []
 
+-- an entry by its place
 abbrev pub entryWords : Memory → Place → ℕ → List ℕ
 entryWords m place opened = spanWords opened (placeSpan m place)
 
+-- a refusal: what is 2
 abbrev pub refusalWords : Refusal → ℕ → List ℕ
 refusalWords r opened = 2 ∷ numberOf r ∷ opened ∷ 0 ∷ 0 ∷ 0 ∷ []
 
+-- the end, or not found: what is 0
 abbrev pub noneWords : ℕ → List ℕ
 noneWords opened = 0 ∷ 0 ∷ opened ∷ 0 ∷ 0 ∷ 0 ∷ []
 
@@ -107,32 +118,36 @@ abbrev pub bits64 : ℤ → ℕ
 bits64 (pos n) = n
 bits64 (negsuc n) = 2 ^ 64 - suc n
 
--- a node: 0 the root, 1 a record; its VCN
+-- which node: 0 the root, 1 a record
 abbrev pub nodeWord : Node → ℕ
 nodeWord Root = 0
 nodeWord (Record vcn) = 1
 
+-- the VCN of a record, 0 of the root
 abbrev pub vcnWord : Node → ℕ
 vcnWord Root = 0
 vcnWord (Record vcn) = bits64 vcn
 
+-- and back: every number but 0 is a record
 abbrev pub nodeFrom : (node vcn : ℕ) → Node
 nodeFrom zero vcn = Root
 nodeFrom (suc n) vcn = Record (signed64 vcn)
 
--- a stage: 0 not begun, 1 going, 2 an entry put off, 3 ended; the start of the entry put off
+-- a stage: 0 not begun, 1 going, 2 an entry put off, 3 ended
 abbrev pub stageWord : Stage → ℕ
 stageWord Fresh = 0
 stageWord Going = 1
 stageWord (Due at) = 2
 stageWord Ended = 3
 
+-- the start of the entry put off, 0 where none is
 abbrev pub dueWord : Stage → ℕ
 dueWord Fresh = 0
 dueWord Going = 0
 dueWord (Due at) = at
 dueWord Ended = 0
 
+-- and back: every number past 2 is ended
 abbrev pub stageFrom : (stage due : ℕ) → Stage
 stageFrom zero due = Fresh
 stageFrom (suc zero) due = Going
@@ -176,13 +191,15 @@ keptNumbers =
     ∷ Given MalformedCapture
     ∷ []
 
+-- and back: the refusal of that number
 abbrev pub keptFrom : ℕ → Kept
 keptFrom n = getD keptNumbers n Nothing
 
--- a level, five numbers: node, VCN, next start, stage, start of the entry put off
+-- a level is five numbers: node, VCN, next start, stage, start of the entry put off
 abbrev pub levelWords : Level → List ℕ
 levelWords l = nodeWord (l .node) ∷ vcnWord (l .node) ∷ l .next ∷ stageWord (l .stage) ∷ dueWord (l .stage) ∷ []
 
+-- and back, from word at on
 abbrev pub levelFrom : List ℕ → ℕ → Level
 levelFrom w at =
     levelOf (nodeFrom (getD w at 0) (getD w (at + 1) 0)) (getD w (at + 2) 0) (stageFrom (getD w (at + 3) 0) (getD w (at + 4) 0))
@@ -192,17 +209,17 @@ unfoldable pub stored : (w : List ℕ) (at : ℕ) → List ℕ → List ℕ
 stored w at [] = w
 stored w at (x ∷ xs) = stored (set w at x) (at + 1) xs
 
--- so many levels, the first at i
+-- the numbers of so many levels, the first at i
 unfoldable pub levelsWords : ℕ → List Level → (i : ℕ) → List ℕ
 levelsWords zero ls i = []
 levelsWords (suc n) ls i = levelWords (getD ls i blank) ++ levelsWords n ls (i + 1)
 
--- so many levels, the first from word at on
+-- so many levels back, the first from word at on
 unfoldable pub levelsFrom : ℕ → List ℕ → (at : ℕ) → List Level
 levelsFrom zero w at = []
 levelsFrom (suc n) w at = levelFrom w at ∷ levelsFrom n w (at + 5)
 
--- a cursor, 43 numbers: depth, opened, refusal kept, the 8 levels
+-- a cursor is 43 numbers: depth, opened, refusal kept, the 8 levels
 unfoldable pub cursorWords : Cursor → List ℕ
 cursorWords c = c .depth ∷ c .opened ∷ keptWord (c .refusal) ∷ levelsWords levels (c .levels) 0
 
@@ -225,3 +242,8 @@ Holds (Record (negsuc n)) = n < 2 ^ 63
 pub record Whole (c : Cursor) : Type 0 where
   pub eight : length (c .levels) ≡ levels
   pub vcns : (i : ℕ) → Holds (getD (c .levels) i blank .node)
+
+-- the answer of the step after k others, each handed the numbers that the one before it left
+unfoldable pub wordsAt : Memory → (spent : ℕ → Bool) → ℕ → List ℕ → List ℕ
+wordsAt m spent zero w = answerWords m (stepOf m spent (cursorFrom w) .answer)
+wordsAt m spent (suc k) w = wordsAt m spent k (cursorWords (stepOf m spent (cursorFrom w) .cursor))
