@@ -5,3 +5,4 @@ pub mod Leaves
 pub mod Listing
 pub mod Lookup
 pub mod Nodes
+pub mod Words

@@ -6,3 +6,4 @@ pub mod Leaves
 pub mod Listing
 pub mod Lookup
 pub mod Nodes
+pub mod Words
