@@ -4,9 +4,8 @@
      find ID CLUSTER ROOT POOL NAME TABLE   one lookup
      table NAME UNITS                       a table; four hex digits a unit
      table NAME map BASE 0061=0041,...      the table BASE with some units changed; T and I are built in
-     table NAME file PATH                   a table of little-endian units in a file
 
-   Bytes are in hex, `-` is none, `#` starts a comment. Prints ID, the entries, and the ending:
+   Bytes are in hex, `-` is none, `=` for ROOT or POOL those of the case before, `#` starts a comment. Prints ID, the entries, and the ending:
 
      root:OFFSET:LENGTH:OPENED  pool:OFFSET:LENGTH:OPENED   an entry, with the count of records opened
      end:OPENED  missing:OPENED  refused:NUMBER:OPENED  cut:OPENED   (cut: as many entries as --yields says)
@@ -87,6 +86,13 @@ static int units_of(const char *s, uint16_t **units, size_t *count) {
     return 1;
 }
 
+/* A field's bytes in place of the ones held; `=` leaves them. */
+static int hold(const char *s, Bytes *held) {
+    if (!strcmp(s, "=")) return held->bytes != NULL;
+    free(held->bytes);
+    return unhex(s, held);
+}
+
 static Table *table_named(const char *name) {
     for (int i = 0; i < table_count; i++)
         if (!strcmp(tables[i].name, name)) return &tables[i];
@@ -128,23 +134,10 @@ static int table_from_map(const char *name, const char *base, char *pairs) {
     return keep_table(name, units, t->count);
 }
 
-static int table_from_file(const char *name, const char *path) {
-    FILE *f = fopen(path, "rb");
-    if (!f) return 0;
-    uint8_t *bytes = take(2 * TABLE);
-    size_t count = fread(bytes, 1, 2 * TABLE, f) / 2;
-    fclose(f);
-    uint16_t *units = take(2 * TABLE);
-    for (size_t i = 0; i < count; i++) units[i] = (uint16_t)(bytes[2 * i] + 256 * bytes[2 * i + 1]);
-    free(bytes);
-    return keep_table(name, units, count);
-}
-
 static int define_table(char **field, int n) {
     uint16_t *units;
     size_t count;
     if (n == 3) return units_of(field[2], &units, &count) && keep_table(field[1], units, count);
-    if (n == 4 && !strcmp(field[2], "file")) return table_from_file(field[1], field[3]);
     if (n == 5 && !strcmp(field[2], "map")) return table_from_map(field[1], field[3], field[4]);
     return 0;
 }
@@ -191,8 +184,8 @@ static int run_case(char **field, int n) {
     if (n != (finding ? 7 : 5)) return 0;
     char *end;
     size_t cluster = strtoull(field[2], &end, 10);
-    Bytes root, pool;
-    if (*end || !unhex(field[3], &root) || !unhex(field[4], &pool)) return 0;
+    static Bytes root, pool;
+    if (!hold(field[3], &root) || !hold(field[4], &pool) || *end) return 0;
     if (finding) {
         uint16_t *name;
         size_t count;
@@ -203,8 +196,6 @@ static int run_case(char **field, int n) {
     } else {
         list(cluster, root, pool);
     }
-    free(root.bytes);
-    free(pool.bytes);
     return 1;
 }
 
