@@ -9,7 +9,7 @@ use lib.Dec.{ltb}
 use Rattle.logic.proofs.Cases.{it, look}
 use Rattle.refusal.specs.Part.{Part, absent, refused, present}
 use Rattle.index_entry.specs.Entry.{entryAt}
-use Rattle.index_entry.proofs.Laws.{entered}
+use Rattle.index_entry.proofs.Laws.{entered, last-keyless}
 use Rattle.index_node.specs.declared.Node.{Node}
 use Rattle.index_node.specs.declared.View.{View}
 use Rattle.index_node.specs.declared.Viewed.{Viewed}
@@ -20,7 +20,7 @@ use Rattle.index_node.proofs.Laws.{opened}
 use Rattle.index.specs.Entries.{Entry, entryOf, metIn, Look, past, bad, met, lookIn, metView, metAt, lookView, lookAt}
 use Rattle.index.specs.Entries.{Entries, next, endOf, rolled, roll, entriesFrom, usedOr, bound, entriesAt}
 
--- an entry met at a position: before the used end, a byte long at least, the same when it is due, its node fine, its place there
+-- an entry met at a position: before the used end, a byte long at least, the same when it is due, its node fine, its place there, a LAST_ENTRY without a key
 pub record Sees (m : Memory) (node : Node) (at : ℕ) (e : Entry) : Type 0 where
   pub near : at < bound m node
   pub long : 0 < e .place .size
@@ -28,6 +28,7 @@ pub record Sees (m : Memory) (node : Node) (at : ℕ) (e : Entry) : Type 0 where
   pub begun : (view : View) × (viewOf m node ≡ Viewed.Fine view)
   pub is-node : e .place .node ≡ node
   pub is-at : e .place .at ≡ at
+  pub keyless : e .final ≡ true → e .key ≡ absent
 
 -- the same of a node's view
 record SeesIn (m : Memory) (v : Viewed) (at : ℕ) (e : Entry) : Type 0 where
@@ -38,6 +39,7 @@ record SeesIn (m : Memory) (v : Viewed) (at : ℕ) (e : Entry) : Type 0 where
   is-view : v ≡ Viewed.Fine view
   is-node : e .place .node ≡ view .node
   is-at : e .place .at ≡ at
+  keyless : e .final ≡ true → e .key ≡ absent
 
 sees-entry : (m : Memory) (view : View) (at : ℕ) (e : Entry) → at < view .used
     → metIn (viewBytes (m .root) (m .pool) view) view at ≡ present e → SeesIn m (Viewed.Fine view) at e
@@ -57,6 +59,7 @@ sees-entry m view at e h d = elim (look (entryAt (viewBytes (m .root) (m .pool) 
         is-view = refl;
         is-node = refl;
         is-at = refl;
+        keyless = last-keyless bytes;
       })
 ]
 
@@ -86,6 +89,7 @@ sees m node at e h =
       begun = (s .view, s .is-view);
       is-node = s .is-node ∙ opened m node (s .view) (s .is-view) .is-node;
       is-at = s .is-at;
+      keyless = s .keyless;
     }
 
 -- an entry that is due is in a node that is fine

@@ -12,6 +12,7 @@ use Rattle.refusal.specs.Part.{Part, absent, refused, present}
 use Rattle.index_entry.specs.Entry.{subnodeSays}
 use Rattle.index_node.specs.declared.Node.{Node}
 use Rattle.index_node.specs.declared.Node.the-variants.{Record}
+use Rattle.index_node.specs.declared.View.{View}
 use Rattle.index_node.specs.declared.Viewed.{Viewed}
 use Rattle.index_node.specs.declared.Viewed.the-variants as Viewed
 use Rattle.index_node.specs.declared.Place.{Place}
@@ -20,13 +21,13 @@ use Rattle.index_node.specs.Node.{viewOf}
 use Rattle.index.specs.declared.Stage.{Stage}
 use Rattle.index.specs.declared.Stage.the-variants.{Fresh, Going, Due, Ended}
 use Rattle.index.specs.declared.Level.{Level}
-use Rattle.index.specs.Entries.{Entry, Look, past, bad, met, lookAt, metAt}
-use Rattle.index.specs.Walk.{levels, dirOf, Opened, declined, opened, opening, unseen}
+use Rattle.index.specs.Entries.{Entry, Look, past, bad, met, lookAt, metAt, Entries, entriesAt}
+use Rattle.index.specs.Walk.{levels, dirOf, Opened, declined, opened, opening, unseen, openedNode}
 use Rattle.index.specs.Step.{levelOf, Outcome, yields, ends, refuses, putOff, close, enter, visit, goDown, descend}
 use Rattle.index.specs.Step.{leftBelow, begin, yieldDue, goOn, settle}
-use Rattle.index.specs.Turn.{metSays, readSays, startSays, Move, again, out, closeM, openM, tryM, subM, readM, visitM, beginM, levelM, turnM}
+use Rattle.index.specs.Turn.{metSays, readSays, Move, again, out, closeM, openM, tryM, subM, readM, visitM, beginM, levelM, turnM}
 use Rattle.index.proofs.Chains.{sees}
-use Rattle.index.proofs.Reading.{opening-left}
+use Rattle.index.proofs.Reading.{opened-as}
 
 abbrev pub load : Stage → ℕ → ℕ
 load Fresh i = 2 * levels - suc (2 * i)
@@ -74,12 +75,15 @@ module _ (m : Memory) (spent : ℕ → Bool) where
       abbrev closes : ℕ → Outcome
       closes = λ x. close (e .final) (e .place) x ls up
 
-      opens : (v : ℤ) (o left : ℕ) (t : Opened) → suc (suc (length ls)) + left ≡ levels
-          → Moves (goDown t o (λ start. visit (descend m spent left) (lookAt m (Record v) start) (o + 1) (putOff (e .final) (e .place) ∷ ls) closes))
-          full (openM (startSays t) v (putOff (e .final) (e .place)) o ls)
+      abbrev goes : (v : ℤ) (o left : ℕ) → Opened → Outcome
+      goes v o left t =
+          goDown t o (λ start. visit (descend m spent left) (lookAt m (Record v) start) (o + 1) (putOff (e .final) (e .place) ∷ ls) closes)
+
+      opens : (v : ℤ) (o left number : ℕ) (es : Entries) (view : View) → viewOf m (Record v) ≡ Viewed.Fine view
+          → suc (suc (length ls)) + left ≡ levels → Moves (goes v o left (opened number (view .start) es)) full
+          (openM (Viewed.Fine view) v (putOff (e .final) (e .place)) o ls)
       unfolding settle weight
-      opens v o left (declined r) h = refl
-      opens v o left (opened number start es) h = record {
+      opens v o left number es view h k = record {
         few = omega arith;
         less = omega (arith, load-off (e .final) (e .place));
         same = let q : left ≡ levels - suc (suc (length ls)) = omega arith in rw (q, fun-ext (closed e due (e .final)));
@@ -87,13 +91,18 @@ module _ (m : Memory) (spent : ℕ → Bool) where
 
       tries : (v : ℤ) (o left : ℕ) → suc (length ls) + left ≡ levels
           → Moves (descend m spent left v o (putOff (e .final) (e .place) ∷ ls) closes) full
-          (openM (startSays (opening (dirOf m) left (spent o) unseen v)) v (putOff (e .final) (e .place)) o ls)
+          (openM (openedNode m v (opening (dirOf m) left (spent o) unseen v)) v (putOff (e .final) (e .place)) o ls)
       unfolding descend
       tries v o zero h = elim (look (opening (dirOf m) zero (spent o) unseen v)) [
         | it (declined r) p ↦ rw p
-        | it (opened number start es) p ↦ absurd (let z = opening-left m zero (spent o) start v (rw p) in omega arith)
+        | it (opened number start es) p ↦ absurd (omega (arith, opened-as m zero (spent o) v number start es p .1 .deep))
       ]
-      tries v o (suc left) h = opens v o left (opening (dirOf m) (suc left) (spent o) unseen v) (omega arith)
+      tries v o (suc left) h = elim (look (opening (dirOf m) (suc left) (spent o) unseen v)) [
+        | it (declined r) p ↦ rw p
+        | it (opened number start es) p ↦
+            let w = opened-as m (suc left) (spent o) v number start es p in
+            rw (w .1 .is, w .1 .of) (opens v o left (w .1 .number) (entriesAt m (Record v) (w .0 .start)) (w .0) (w .1 .of) (omega arith))
+      ]
 
       subs : (o : ℕ) (t : Part ℤ)
           → Moves (enter (descend m spent (leftBelow ls)) t o (putOff (e .final) (e .place) ∷ ls) closes) full

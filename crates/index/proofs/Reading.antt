@@ -17,7 +17,7 @@ use Rattle.index_root.specs.declared.Judged.the-variants as Judged
 use Rattle.index_allocation.specs.declared.Lies.the-variants as Lies
 use Rattle.index_entry.specs.declared.EntryAt.{EntryAt}
 use Rattle.index_entry.specs.declared.EntryAt.the-variants as EntryAt
-use Rattle.index_entry.specs.Entry.{isLast, entryAt, entrySays, subnodeOf, subnodeSays}
+use Rattle.index_entry.specs.Entry.{isLast, entryAt, entrySays, keyOf, subnodeOf}
 use Rattle.index_entry.proofs.Laws.{entered}
 use Rattle.index_node.specs.declared.Node.{Node}
 use Rattle.index_node.specs.declared.Node.the-variants.{Record}
@@ -33,19 +33,18 @@ use Rattle.index.specs.declared.Met.{Met}
 use Rattle.index.specs.declared.Read.the-variants as Read
 use Rattle.index.specs.declared.Standing.{Standing}
 use Rattle.index.specs.declared.Standing.the-variants as Standing
-use Rattle.index.specs.declared.Start.the-variants as Start
-use Rattle.index.specs.Entries.{Entry, Look, past, bad, met, entryPart, metIn, lookIn}
-use Rattle.index.specs.Walk.{dirOf, opening, unseen, allow}
+use Rattle.index.specs.Entries.{Entry, Look, past, bad, met, entryPart, metIn, lookIn, Entries, entriesAt}
+use Rattle.index.specs.Walk.{dirOf, Opened, declined, opened, opening, unseen, openedNode}
 use Rattle.index.specs.Step.{levelOf, yields, refuses, yieldDue, judgedEntry}
-use Rattle.index.specs.Turn.{metSays, readSays, standingSays, startSays}
+use Rattle.index.specs.Turn.{metSays, readSays, standingSays}
 
 clash : {A : Type 0} → _≡_ {A = ℕ} 0 1 → A
 clash e = absurd (omega arith)
 
 module _ (bytes : List ℕ) (view : View) (at : ℕ) where
-  pub read-over : nextIn bytes view at ≡ Next.Over → Read.Over ≡ readSays (lookIn bytes view at)
+  pub look-over : nextIn bytes view at ≡ Next.Over → lookIn bytes view at ≡ past
   unfolding nextIn lookIn metIn
-  read-over h = elim (look (ltb at (view .used))) [
+  look-over h = elim (look (ltb at (view .used))) [
     | it false p ↦ rw p
     | it true p ↦ elim (look (entryAt bytes at)) [
       | it absent q ↦ clash (cc (rw (p, q) at h))
@@ -54,9 +53,9 @@ module _ (bytes : List ℕ) (view : View) (at : ℕ) where
     ]
   ]
 
-  pub read-refused : (r : Refusal) → nextIn bytes view at ≡ Next.Refused r → Read.Refused r ≡ readSays (lookIn bytes view at)
+  pub look-refused : (r : Refusal) → nextIn bytes view at ≡ Next.Refused r → lookIn bytes view at ≡ bad r
   unfolding nextIn lookIn metIn
-  read-refused r h = elim (look (ltb at (view .used))) [
+  look-refused r h = elim (look (ltb at (view .used))) [
     | it false p ↦ clash (cc (rw p at h))
     | it true p ↦ elim (look (entryAt bytes at)) [
       | it absent q ↦ let same = rw (p, q) at h in rw (p, q) (cc)
@@ -66,13 +65,16 @@ module _ (bytes : List ℕ) (view : View) (at : ℕ) where
   ]
 
   -- the entry's own bytes
-  abbrev own : List ℕ
+  abbrev pub own : List ℕ
   own = bytesOf (entryAt bytes at)
 
-  pub read-entry : (p : Place) → nextIn bytes view at ≡ Next.Entry p
-      → Read.Entry (record { place = p; next = at + p .size; last = isLast own; sub = subnodeSays (subnodeOf own) }) ≡ readSays (lookIn bytes view at)
+  abbrev pub seen : Place → Entry
+  seen p = record { place = p; final = isLast own; key = keyOf own; sub = subnodeOf own }
+
+  pub look-entry : (p : Place) → nextIn bytes view at ≡ Next.Entry p
+      → lookIn bytes view at ≡ met (seen p)
   unfolding nextIn lookIn metIn
-  read-entry pl h = elim (look (ltb at (view .used))) [
+  look-entry pl h = elim (look (ltb at (view .used))) [
     | it false p ↦ clash (cc (rw p at h))
     | it true p ↦ elim (look (entryAt bytes at)) [
       | it absent q ↦ clash (cc (rw (p, q) at h))
@@ -84,8 +86,8 @@ module _ (bytes : List ℕ) (view : View) (at : ℕ) where
     ]
   ]
 
-  -- the entry lies in the bytes, so that its end is a number
-  pub read-within : (p : Place) → nextIn bytes view at ≡ Next.Entry p → at + p .size ≤ length bytes
+  -- the entry lies there in the bytes, so that its end is a number
+  pub read-within : (p : Place) → nextIn bytes view at ≡ Next.Entry p → (p .at ≡ at) × (at + p .size ≤ length bytes)
   unfolding nextIn
   read-within pl h = elim (look (ltb at (view .used))) [
     | it false p ↦ clash (cc (rw p at h))
@@ -95,7 +97,7 @@ module _ (bytes : List ℕ) (view : View) (at : ℕ) where
       | it (present e) q ↦
           let same : Next.Entry (record { node = view .node; at = at; size = length e }) ≡ Next.Entry pl = rw (p, q) at h in
           let is : record { node = view .node; at = at; size = length e } ≡ pl = cc in
-          rw (← is) (entered bytes at e q .within)
+          rw (← is) (refl, entered bytes at e q .within)
     ]
   ]
 
@@ -141,18 +143,28 @@ next-is (bad r) x e = clash (cc)
 next-is (met e) x h = let is : metSays e ≡ x = cc in rw (← is)
 
 module _ (m : Memory) (left : ℕ) (spent : Bool) (vcn : ℤ) where
-  pub open-empty : length (m .pool) ≡ 0 → Start.Refused SubnodeWithoutPool ≡ startSays (opening (dirOf m) left spent unseen vcn)
+  abbrev opens : Opened
+  opens = opening (dirOf m) left spent unseen vcn
+
+  pub open-empty : length (m .pool) ≡ 0 → Viewed.Refused SubnodeWithoutPool ≡ openedNode m vcn opens
   unfolding opening dirOf
   open-empty e = rw (eq-eqb (length (m .pool)) 0 e)
 
-  module _ (some : length (m .pool) ≡ 0 → ⊥) where
-    pub open-deep : left ≡ 0 → Start.Refused TooManyLevels ≡ startSays (opening (dirOf m) left spent unseen vcn)
-    unfolding opening dirOf
-    open-deep e = rw (ne-eqb (length (m .pool)) 0 some, e)
+  pub open-deep : (length (m .pool) ≡ 0 → ⊥) → left ≡ 0 → Viewed.Refused TooManyLevels ≡ openedNode m vcn opens
+  unfolding opening dirOf
+  open-deep some e = rw (ne-eqb (length (m .pool)) 0 some, e)
+
+  -- a record that was opened, by its view: a level and an allowance were left
+  pub record Open (view : View) : Type 0 where
+    pub number : ℕ
+    pub is : opens ≡ opened number (view .start) (entriesAt m (Record vcn) (view .start))
+    pub of : viewOf m (Record vcn) ≡ Viewed.Fine view
+    pub deep : 0 < left
+    pub room : spent ≡ false
 
 module _ (m : Memory) (vcn : ℤ) where
   pub open-spent : (left : ℕ) → (length (m .pool) ≡ 0 → ⊥) → (left ≡ 0 → ⊥)
-      → Start.Refused AllowanceSpent ≡ startSays (opening (dirOf m) left true unseen vcn)
+      → Viewed.Refused AllowanceSpent ≡ openedNode m vcn (opening (dirOf m) left true unseen vcn)
   unfolding opening dirOf
   open-spent zero some deep = absurd (deep refl)
   open-spent (suc left) some deep = rw (ne-eqb (length (m .pool)) 0 some)
@@ -161,54 +173,50 @@ module _ (m : Memory) (vcn : ℤ) where
   unfolding viewOf recordView
   nowhere-view s p = rw p
 
-  pub open-wrong : (left : ℕ) (r : Refusal) → (length (m .pool) ≡ 0 → ⊥) → (left ≡ 0 → ⊥) → viewOf m (Record vcn) ≡ Viewed.Refused r
-      → Start.Refused r ≡ startSays (opening (dirOf m) left false unseen vcn)
+  pub open-node : (left : ℕ) → (length (m .pool) ≡ 0 → ⊥) → (left ≡ 0 → ⊥)
+      → viewOf m (Record vcn) ≡ openedNode m vcn (opening (dirOf m) left false unseen vcn)
   unfolding opening dirOf
-  open-wrong zero r some deep e = absurd (deep refl)
-  open-wrong (suc left) r some deep e = elim (look (placed m vcn)) [
-    | it (Lies.Refused s) p ↦
-        let same : Viewed.Refused s ≡ Viewed.Refused r = sym (nowhere-view s p) ∙ e in
-        rw (ne-eqb (length (m .pool)) 0 some, p, opening) (cc)
-    | it (Lies.Record n) p ↦ rw (ne-eqb (length (m .pool)) 0 some, p, e, opening)
-  ]
-
-  pub open-fine : (left : ℕ) (view : View) → (length (m .pool) ≡ 0 → ⊥) → (left ≡ 0 → ⊥) → viewOf m (Record vcn) ≡ Viewed.Fine view
-      → Start.At (view .start) ≡ startSays (opening (dirOf m) left false unseen vcn)
-  unfolding opening dirOf
-  open-fine zero view some deep e = absurd (deep refl)
-  open-fine (suc left) view some deep e = elim (look (placed m vcn)) [
-    | it (Lies.Refused s) p ↦ clash (cc (nowhere-view s p))
-    | it (Lies.Record n) p ↦ rw (ne-eqb (length (m .pool)) 0 some, p, e, opening)
-  ]
-
--- a record that was opened: the pool was not empty, a level was left, and the allowance was not spent
-module _ (m : Memory) (left : ℕ) (spent : Bool) (start : ℕ) (vcn : ℤ) (e : startSays (opening (dirOf m) left spent unseen vcn) ≡ Start.At start) where
-  opened-left : 0 < left
-  unfolding opening dirOf
-  opened-left = elim (look (eqb (length (m .pool)) 0)) [
-    | it true p ↦ clash (cc (rw (p, opening) at e))
-    | it false p ↦ elim (look left) [
-      | it zero q ↦ clash (cc (rw (p, q, opening) at e))
-      | it (suc l) q ↦ omega arith
+  open-node zero some deep = absurd (deep refl)
+  open-node (suc left) some deep = elim (look (placed m vcn)) [
+    | it (Lies.Refused s) p ↦ rw (ne-eqb (length (m .pool)) 0 some, p, opening) (nowhere-view s p)
+    | it (Lies.Record n) p ↦ elim (look (viewOf m (Record vcn))) [
+      | it (Viewed.Refused r) q ↦ rw (ne-eqb (length (m .pool)) 0 some, p, q, opening)
+      | it (Viewed.Fine view) q ↦ rw (ne-eqb (length (m .pool)) 0 some, p, q, opening) (sym q)
     ]
   ]
 
-  opened-unspent : spent ≡ false
+module _ (m : Memory) (left : ℕ) (spent : Bool) (vcn : ℤ) where
+  pub opened-as : (number start : ℕ) (es : Entries) → opens m left spent vcn ≡ opened number start es → (view : View) × Open m left spent vcn view
   unfolding opening dirOf
-  opened-unspent = elim (look (eqb (length (m .pool)) 0)) [
+  opened-as number start es e = elim (look (eqb (length (m .pool)) 0)) [
     | it true p ↦ clash (cc (rw (p, opening) at e))
     | it false p ↦ elim (look left) [
       | it zero q ↦ clash (cc (rw (p, q, opening) at e))
       | it (suc l) q ↦ elim (look spent) [
         | it true s ↦ clash (cc (rw (p, q, s, opening) at e))
-        | it false s ↦ s
+        | it false s ↦ elim (look (placed m vcn)) [
+          | it (Lies.Refused r) t ↦ clash (cc (rw (p, q, s, t, opening) at e))
+          | it (Lies.Record n) t ↦ elim (look (viewOf m (Record vcn))) [
+            | it (Viewed.Refused r) u ↦ clash (cc (rw (p, q, s, t, u, opening) at e))
+            | it (Viewed.Fine view) u ↦ (view, record { number = n; is = rw (p, q, s, t, u, opening); of = u; deep = omega (arith, q); room = s })
+          ]
+        ]
       ]
     ]
   ]
 
-pub opening-left : (m : Memory) (left : ℕ) (spent : Bool) (start : ℕ) (vcn : ℤ) → startSays
-    (opening (dirOf m) left spent unseen vcn) ≡ Start.At start → 0 < left
-opening-left m left spent start vcn e = opened-left m left spent start vcn e
+  pub shown-node : (view : View) → openedNode m vcn (opens m left spent vcn) ≡ Viewed.Fine view → Open m left spent vcn view
+  shown-node view h = elim (look (opens m left spent vcn)) [
+    | it (declined r) p ↦ clash (cc (rw p at h))
+    | it (opened number start es) p ↦
+        let o = opened-as number start es p in
+        let same : Viewed.Fine (o .0) ≡ Viewed.Fine view = sym (o .1 .of) ∙ rw p at h in
+        let is : o .0 ≡ view = cc in
+        rw (← is) (o .1)
+  ]
 
-pub opening-room : (m : Memory) (a o left start : ℕ) (vcn : ℤ) → startSays (opening (dirOf m) left (allow a o) unseen vcn) ≡ Start.At start → o < a
-opening-room m a o left start vcn e = leb-false a o (opened-unspent m left (leb a o) start vcn e)
+  pub shown-refusal : (r : Refusal) → openedNode m vcn (opens m left spent vcn) ≡ Viewed.Refused r → opens m left spent vcn ≡ declined r
+  shown-refusal r h = elim (look (opens m left spent vcn)) [
+    | it (declined s) p ↦ let same = rw p at h in rw p (cc)
+    | it (opened number start es) p ↦ let o = opened-as number start es p in let not = rw p at h in let is = o .1 .of in clash (cc)
+  ]

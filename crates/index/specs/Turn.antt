@@ -27,16 +27,14 @@ use Rattle.index.specs.declared.Read.{Read}
 use Rattle.index.specs.declared.Read.the-variants as Read
 use Rattle.index.specs.declared.Standing.{Standing}
 use Rattle.index.specs.declared.Standing.the-variants as Standing
-use Rattle.index.specs.declared.Start.{Start}
-use Rattle.index.specs.declared.Start.the-variants as Start
 use Rattle.index.specs.declared.Next.{Next}
 use Rattle.index.specs.declared.Next.the-variants.{Again, Says}
 use Rattle.index.specs.declared.Turned.{Turned}
 use Rattle.index.specs.Entries.{Entry, Look, past, bad, met, endOf, lookAt, metAt}
-use Rattle.index.specs.Walk.{levels, dirOf, Opened, declined, opened, opening, unseen}
+use Rattle.index.specs.Walk.{levels, dirOf, opening, unseen, openedNode}
 use Rattle.index.specs.Step.{levelOf, frames, cursorOf, Outcome, yields, ends, refuses, putOff, yieldDue, told}
 
--- what the code shows of an entry that is met, of one that is due, of a record that is opened
+-- what the code shows of an entry that is met, of one that is due
 abbrev pub metSays : Entry → Met
 metSays e = record { place = e .place; next = endOf (e .place); last = e .final; sub = subnodeSays (e .sub) }
 
@@ -50,10 +48,6 @@ standingSays absent = Standing.Refused EntrySize
 standingSays (refused r) = Standing.Refused r
 standingSays (present e) = Standing.Entry (e .place)
 
-abbrev pub startSays : Opened → Start
-startSays (declined r) = Start.Refused r
-startSays (opened number start es) = Start.At start
-
 -- go on with these levels and this count; or the step's outcome
 pub data Move : Type 0 where
   again : List Level → ℕ → Move
@@ -63,13 +57,13 @@ abbrev pub closeM : Bool → Place → ℕ → ℕ → List Level → Move
 closeM true p next o ls = again ls o
 closeM false p next o ls = out (yields p o (levelOf (p .node) next Going ∷ ls))
 
-abbrev pub openM : Start → ℤ → Level → ℕ → List Level → Move
-openM (Start.Refused r) vcn p o ls = out (refuses r o)
-openM (Start.At start) vcn p o ls = again (levelOf (Record vcn) start Going ∷ p ∷ ls) (o + 1)
+abbrev pub openM : Viewed → ℤ → Level → ℕ → List Level → Move
+openM (Viewed.Refused r) vcn p o ls = out (refuses r o)
+openM (Viewed.Fine view) vcn p o ls = again (levelOf (Record vcn) (view .start) Going ∷ p ∷ ls) (o + 1)
 
 -- d: how many levels there are, this one with them
 abbrev pub tryM : Memory → (spent : ℕ → Bool) → ℤ → Level → ℕ → ℕ → List Level → Move
-tryM m spent vcn p o d ls = openM (startSays (opening (dirOf m) (levels - d) (spent o) unseen vcn)) vcn p o ls
+tryM m spent vcn p o d ls = openM (openedNode m vcn (opening (dirOf m) (levels - d) (spent o) unseen vcn)) vcn p o ls
 
 abbrev pub subM : Memory → (spent : ℕ → Bool) → Subnode → Met → ℕ → ℕ → List Level → Move
 subM m spent Subnode.Absent x o d ls = closeM (x .last) (x .place) (x .next) o ls

@@ -64,6 +64,11 @@ opening d left spent seen vcn = elim (d .empty) [
   ]
 ]
 
+-- the node of a record that was opened
+abbrev pub openedNode : Memory → ℤ → Opened → Viewed
+openedNode m vcn (declined r) = Viewed.Refused r
+openedNode m vcn (opened number start es) = viewOf m (Record vcn)
+
 abbrev pub unseen : ℕ → Bool
 unseen number = false
 

@@ -5,9 +5,9 @@ ghost use Prim.Native.Nat.{_+_, _-_, _≤_, _<_};
 ghost use Rattle.index_node.specs.Memory.{memory};
 ghost use Rattle.index_node.specs.Node.{viewOf};
 ghost use Rattle.index.specs.Entries.{lookIn, lookAt, metAt};
-ghost use Rattle.index.specs.Walk.{levels, dirOf, opening, unseen, allow};
+ghost use Rattle.index.specs.Walk.{levels, dirOf, opening, unseen, allow, openedNode};
 ghost use Rattle.index.specs.Step.{levelOf, frames, cursorOf, newCursor, yields, refuses, putOff, yieldDue, settle, judgedView, judge, judgeAll, checks, told, stepOf};
-ghost use Rattle.index.specs.Turn.{readSays, standingSays, startSays, again, out, tryM, subM, visitM, beginM, levelM, turnM, turnedOf, Tidy};
+ghost use Rattle.index.specs.Turn.{readSays, standingSays, again, out, tryM, subM, visitM, beginM, levelM, turnM, turnedOf, Tidy};
 use index_entry::EntryAt;
 use index_entry::Subnode;
 use index_node::Node;
@@ -74,12 +74,6 @@ enum Read {
 // An entry put off, as it now stands.
 enum Standing {
     Entry(Place),
-    Refused(Refusal),
-}
-
-// Where an opened record's entries start.
-enum Start {
-    At(usize),
     Refused(Refusal),
 }
 
@@ -210,7 +204,7 @@ fn check_step<'a>(root: &'a [u8], pool: &'a [u8], cluster: usize, c: Cursor) -> 
 }
 
 // Opening a record: 10, 11, 12, 13 to 17.
-fn open_record<'a>(
+pub fn open_record<'a>(
     root: &'a [u8],
     pool: &'a [u8],
     cluster: usize,
@@ -218,22 +212,19 @@ fn open_record<'a>(
     opened: u64,
     left: usize,
     vcn: i64,
-) -> Start
-    ensures { λ r. ⌜ r ≡ startSays (opening (dirOf (memory (now (root .entry)) (now (pool .entry)) cluster)) left (allow allowance opened) unseen vcn) ⌝ }
+) -> Viewed
+    ensures { λ r. ⌜ r ≡ openedNode (memory (now (root .entry)) (now (pool .entry)) cluster) vcn (opening (dirOf (memory (now (root .entry)) (now (pool .entry)) cluster)) left (allow allowance opened) unseen vcn) ⌝ }
 {
     if pool.len() == 0 {
-        return Start::Refused(Refusal::SubnodeWithoutPool);
+        return Viewed::Refused(Refusal::SubnodeWithoutPool);
     }
     if left == 0 {
-        return Start::Refused(Refusal::TooManyLevels);
+        return Viewed::Refused(Refusal::TooManyLevels);
     }
     if allowance <= opened {
-        return Start::Refused(Refusal::AllowanceSpent);
+        return Viewed::Refused(Refusal::AllowanceSpent);
     }
-    match index_node::open_node(root, pool, cluster, Node::Record(vcn)) {
-        Viewed::Refused(r) => Start::Refused(r),
-        Viewed::Fine(view) => Start::At(view.start),
-    }
+    index_node::open_node(root, pool, cluster, Node::Record(vcn))
 }
 
 // No level, and blank past it.
@@ -398,14 +389,14 @@ fn open_sub<'a>(
     let o = c.opened;
     let left = LEVELS - c.depth;
     match open_record(root, pool, cluster, allowance, o, left, vcn) {
-        Start::Refused(r) => stop_turn(r, o),
-        Start::At(start) => {
+        Viewed::Refused(r) => stop_turn(r, o),
+        Viewed::Fine(view) => {
             let t = topped(c, p);
             let r = pushed(
                 t,
                 Level {
                     node: Node::Record(vcn),
-                    next: start,
+                    next: view.start,
                     stage: Stage::Going,
                 },
                 o + 1,

@@ -115,3 +115,8 @@ pub key-none : (p : Part (List ℕ)) → isPresent (keySays p) ≡ false → [] 
 key-none absent n = refl
 key-none (refused r) n = refl
 key-none (present s) n = absurd (let z : _≡_ {A = ℕ} 0 1 = cc in omega arith)
+
+-- a LAST_ENTRY has no key
+pub last-keyless : (entry : List ℕ) → isLast entry ≡ true → keyOf entry ≡ absent
+unfolding keyOf
+last-keyless entry h = elim (look (eqb (keyLengthOf entry) 0)) [ it true p ↦ rw p | it false p ↦ rw (p, h) ]

@@ -1,4 +1,5 @@
 pub mod Kind
 pub mod Find
+pub mod Visit
 pub mod Sorted
 pub mod Tree

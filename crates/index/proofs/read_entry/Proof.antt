@@ -2,7 +2,7 @@
 -- One law for each answer of `next_entry`.
 use mathlib.Core.Path.{sym, _∙_}
 use denote.Ref.{now}
-use Rattle.index.proofs.Reading.{read-over, read-refused, read-entry, read-within}
+use Rattle.index.proofs.Reading.{look-over, look-refused, look-entry, read-within}
 use borrow.Author.Needs.{needs}
 use Rattle.index.proofs.read_entry.Statement.{statement}
 use Rattle.index.proofs.read_entry.Tie as tie
@@ -37,25 +37,18 @@ subnode-vcn-requires : tie.Need-subnode-vcn-requires
 subnode-vcn-requires c κs = search needs
 
 returns : tie.Need-returns
-returns c =
-    read-over (now (c .before .before .before .before .args .bytes)) (c .before .before .before .before .args .view)
-    (c .before .before .before .before .args .at) (sym (c .before .before .next-entry .ensures) ∙ c .enum-told .given .1)
+returns c = rw (look-over (now (c .before .before .before .before .args .bytes)) (c .before .before .before .before .args .view) (c .before .before .before .before .args .at) (sym (c .before .before .next-entry .ensures) ∙ c .enum-told .given .1))
 
 returns-2 : tie.Need-returns-2
 returns-2 c =
-    read-refused (now (c .before .before .before .before .before .args .bytes)) (c .before .before .before .before .before .args .view)
-    (c .before .before .before .before .before .args .at) (c .before .r .given .0 .0)
-    (sym (c .before .before .before .next-entry .ensures) ∙ c .before .r .given .1)
+    rw (look-refused (now (c .before .before .before .before .before .args .bytes)) (c .before .before .before .before .before .args .view) (c .before .before .before .before .before .args .at) (c .before .r .given .0 .0) (sym (c .before .before .before .next-entry .ensures) ∙ c .before .r .given .1))
 
 returns-3 : tie.Need-returns-3
 returns-3 c =
-    let e = read-entry (now (c .before .before .before .before .before .before .before .before .before .args .bytes))
-    (c .before .before .before .before .before .before .before .before .before .args .view)
-    (c .before .before .before .before .before .before .before .before .before .args .at)
-    (c .before .before .before .before .before .place .given .0 .0)
-    (sym (c .before .before .before .before .before .before .before .next-entry .ensures) ∙
-    c .before .before .before .before .before .place .given .1) in
-    rw (c .before .is-last-entry .ensures, c .subnode-vcn .ensures, c .before .before .before .entry-bytes .ensures) e
+    let told = sym (c .before .before .before .before .before .before .before .next-entry .ensures) ∙ c .before .before .before .before .before .place .given .1 in
+    let e = look-entry (now (c .before .before .before .before .before .before .before .before .before .args .bytes)) (c .before .before .before .before .before .before .before .before .before .args .view) (c .before .before .before .before .before .before .before .before .before .args .at) (c .before .before .before .before .before .place .given .0 .0) told in
+    let w = read-within (now (c .before .before .before .before .before .before .before .before .before .args .bytes)) (c .before .before .before .before .before .before .before .before .before .args .view) (c .before .before .before .before .before .before .before .before .before .args .at) (c .before .before .before .before .before .place .given .0 .0) told in
+    rw (e, w .0, c .before .is-last-entry .ensures, c .subnode-vcn .ensures, c .before .before .before .entry-bytes .ensures)
 
 pub read-entry-spec : {M : Type 1} → statement M
 read-entry-spec =
