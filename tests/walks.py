@@ -17,8 +17,10 @@ DIFFERENCES = {
     "D7": "pool not whole records: here 7, the crate takes it",
     "D8": "record between two records: here 13, the crate opens it",
     "D9": "sizes whose sums wrap: here 15 or 16, the crate panics",
-    "D10": "more than eight levels: here 11, the crate goes on, for ever if a record leads to itself",
+    "D10": "more than eight levels: here 11, the crate goes on",
+    "D11": "a record that leads to itself: here 11, the crate never returns",
     "D12": "name over 255 units: here 20, the crate compares",
+    "cap": "no difference: many records, where the comparison stops the crate's program",
 }
 
 
@@ -133,13 +135,20 @@ class CrateRules(Rules):
         if size:
             self.reads += 1
             if self.reads > self.cap:
-                self.meet("D10")
-                raise Stopped("loop")
+                self.give_up()
             if offset % size:
                 self.meet("D8")
         if offset + size > len(directory.pool):
             raise Refused(13)
         return directory.pool[offset : offset + size]
+
+    def give_up(self):
+        """More reads than the oracle allows: a walk without end, if it has gone below the eighth level."""
+        if not self.met:
+            self.meet("cap")
+        elif self.met[0] == "D10":
+            self.met[0] = "D11"
+        raise Stopped("loop")
 
     def check(self, record, vcn):
         if len(record) < 4:
