@@ -5,7 +5,7 @@
      table NAME UNITS                       a table; four hex digits a unit
      table NAME map BASE 0061=0041,...      the table BASE with some units changed; T and I are built in
 
-   Bytes are in hex, `-` is none, `=` for ROOT or POOL those of the case before, `#` starts a comment. Prints ID, the entries, and the ending:
+   Bytes are in hex, `-` is none, `=` for ROOT or POOL those of the case before, `#` starts a comment. Prints ID, entries and ending:
 
      root:OFFSET:LENGTH:OPENED  pool:OFFSET:LENGTH:OPENED   an entry, with the count of records opened
      end:OPENED  missing:OPENED  refused:NUMBER:OPENED  cut:OPENED   (cut: as many entries as --yields says)
@@ -78,7 +78,10 @@ static int unhex(const char *s, Bytes *b) {
 /* Four digits a unit, the first two the high byte. */
 static int units_of(const char *s, uint16_t **units, size_t *count) {
     Bytes b;
-    if (!unhex(s, &b) || b.size % 2) return 0;
+    if (!unhex(s, &b) || b.size % 2) {
+        free(b.bytes);
+        return 0;
+    }
     *count = b.size / 2;
     *units = take(b.size);
     for (size_t i = 0; i < *count; i++) (*units)[i] = (uint16_t)(256 * b.bytes[2 * i] + b.bytes[2 * i + 1]);
@@ -128,7 +131,10 @@ static int table_from_map(const char *name, const char *base, char *pairs) {
     memcpy(units, t->units, t->count * sizeof *units);
     for (char *pair = strtok(pairs, ","); pair; pair = strtok(NULL, ",")) {
         unsigned from, to;
-        if (sscanf(pair, "%4x=%4x", &from, &to) != 2 || from >= t->count) return 0;
+        if (sscanf(pair, "%4x=%4x", &from, &to) != 2 || from >= t->count) {
+            free(units);
+            return 0;
+        }
         units[from] = (uint16_t)to;
     }
     return keep_table(name, units, t->count);

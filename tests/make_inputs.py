@@ -113,7 +113,8 @@ def build(rng, d, top):
     for node, at in zip(nodes, order):
         offset = rng.choice([16, 40, 40])
         entries = lay(d, rng, node, places, "pool", at * step + 24 + offset)
-        pool[at * step : at * step + d.size] = record_bytes(d.size, places[id(node)], offset, entries, rng.choice([b"\0", b"\1", b"\xff"]))
+        filler = rng.choice([b"\0", b"\1", b"\xff"])
+        pool[at * step : at * step + d.size] = record_bytes(d.size, places[id(node)], offset, entries, filler)
         d.nodes.append((at * step, places[id(node)]))
     d.pool = bytes(pool)
     entries = lay(d, rng, top, places, "root", 32)
@@ -123,15 +124,18 @@ def build(rng, d, top):
 
 def well_formed(rng, known):
     d = Directory()
-    d.size, d.cluster, d.table = rng.choice(SIZES), rng.choice(CLUSTERS), rng.choice(["T"] * 4 + ["I"] * 2 + [t for t in known if len(known[t]) == 65536])
+    d.size, d.cluster = rng.choice(SIZES), rng.choice(CLUSTERS)
+    d.table = rng.choice(["T"] * 4 + ["I"] * 2 + [t for t in known if len(known[t]) == 65536])
     longest = 150 if d.size == 512 else 255
-    names = sorted({some_name(rng, longest) for _ in range(rng.choice([0, 1, 2, 4, 6, 8, 12, 20]))}, key=lambda n: [known[d.table][u] for u in n])
+    count = rng.choice([0, 1, 2, 4, 6, 8, 12, 20]) if rng.random() < 0.99 else 120
+    names = sorted({some_name(rng, longest) for _ in range(count)}, key=lambda n: [known[d.table][u] for u in n])
     widest = 106 + 2 * max([len(n) for n in names], default=0)
     most = max(1, (d.size - 24 - 40 - 24) // (widest + 8))
     deep = rng.choice([1, 1, 2, 2, 2, 3, 3, 4]) if rng.random() < 0.95 else rng.choice([7, 8, 8, 9])
     if d.cluster > 4096:
         names, deep = names[:3], min(deep, 2)
-    top = grow(rng, names, deep, min(most, rng.choice([1, 2, 3, 8] if deep < 7 else [1])), 0.15 if deep < 7 else 0.45)
+    fan, empty = (rng.choice([1, 2, 3, 8]), 0.15) if deep < 7 else (1, 0.45)
+    top = grow(rng, names, deep, min(most, fan), empty)
     d.names = names
     build(rng, d, top)
     return d
@@ -160,9 +164,11 @@ def damage_root(rng, d):
     if what == 0:
         d.root = put(d.root, 8, rng.choice(SIZES + BAD_SIZES), 4)
     elif what == 1:
-        d.root = put(d.root, 16, rng.choice([0, 8, 15, 16, 17, 24, 32, 40, n - 33, n - 32, n - 17, n - 16, n - 15, WIDE - 1, WIDE - 16]), 4)
+        starts = [0, 8, 15, 16, 17, 24, 32, 40, n - 33, n - 32, n - 17, n - 16, n - 15, WIDE - 1, WIDE - 16]
+        d.root = put(d.root, 16, rng.choice(starts), 4)
     elif what == 2:
-        d.root = put(d.root, 20, rng.choice([0, 14, 15, 16, 17, 31, 32, n - 40, n - 24, n - 17, n - 16, n - 15, WIDE - 1, WIDE - 16]), 4)
+        ends = [0, 14, 15, 16, 17, 31, 32, n - 40, n - 24, n - 17, n - 16, n - 15, WIDE - 1, WIDE - 16]
+        d.root = put(d.root, 20, rng.choice(ends), 4)
     elif what == 3:
         d.root = put(d.root, 28, rng.choice([0, 1, 2, 3, 254, 255]), 1)
     else:
@@ -196,11 +202,14 @@ def damage_record(rng, d):
     elif what == 1:
         d.pool = put(d.pool, at + 16, rng.choice([vcn + 1, vcn - 1, -1, vcn + WIDE, 0, rng.choice(d.nodes)[1], -(2**63)]), 8)
     elif what == 2:
-        d.pool = put(d.pool, at + 24, rng.choice([0, 8, 15, 16, 17, 32, 40, 41, 48, 56, d.size - 40, d.size - 39, d.size - 24, d.size, WIDE - 1]), 4)
+        starts = [0, 8, 15, 16, 17, 32, 40, 41, 48, 56, d.size - 40, d.size - 39, d.size - 24, d.size, WIDE - 1]
+        d.pool = put(d.pool, at + 24, rng.choice(starts), 4)
     elif what == 3:
-        d.pool = put(d.pool, at + 28, rng.choice([0, 16, 39, 40, 41, 56, 57, 64, 120, d.size - 25, d.size - 24, d.size - 23, WIDE - 25, WIDE - 24, WIDE - 1]), 4)
+        ends = [0, 16, 39, 40, 41, 56, 57, 64, 120, d.size - 25, d.size - 24, d.size - 23, WIDE - 25, WIDE - 24, WIDE - 1]
+        d.pool = put(d.pool, at + 28, rng.choice(ends), 4)
     elif what == 4:
-        d.pool = put(d.pool, at + 32, rng.choice([0, 40, 56, 100, d.size - 25, d.size - 24, d.size - 23, d.size, WIDE - 25, WIDE - 24, WIDE - 1]), 4)
+        allocated = [0, 40, 56, 100, d.size - 25, d.size - 24, d.size - 23, d.size, WIDE - 25, WIDE - 24, WIDE - 1]
+        d.pool = put(d.pool, at + 32, rng.choice(allocated), 4)
     else:
         d.pool = put(d.pool, at + rng.choice([4, 6, 8, 12, 36]), rng.getrandbits(16), 2)
 
@@ -209,7 +218,8 @@ def damage_vcn(rng, d, holder, at, length):
     step = max(d.size, d.cluster) // d.cluster
     count = len(d.pool) // max(d.size, d.cluster)
     near = [rng.choice(d.nodes)[1]] * 5 if d.nodes else []
-    vcn = rng.choice(near + [-1, -(2**63), 2**63 - 1, 2**55, 2**54, 0, 1, step * count, step * (count - 1), step * count - 1, 2**52, -2])
+    far = [-1, -(2**63), 2**63 - 1, 2**55, 2**54, 0, 1, step * count, step * (count - 1), step * count - 1, 2**52, -2]
+    vcn = rng.choice(near + far)
     change(d, holder, at + max(length - 8, 16), vcn, 8)
 
 
