@@ -40,8 +40,10 @@ use Rattle.index_node.proofs.next_entry.Reads as next-entry
 use Rattle.index_node.proofs.place_bytes.Reads as place-bytes
 use Rattle.index.proofs.new_cursor.Reads as new-cursor
 use Rattle.index.proofs.step.Reads as step
+use Rattle.index.proofs.open_record.Reads as open-record
 use Rattle.file_name.proofs.read_file_name.Reads as read-file-name
 use Rattle.file_name.proofs.name.Reads as name
+use Rattle.index_finder.proofs.find.Reads as find
 use Rattle.capture.proofs.parse.Reads as parse
 use Rattle.capture.proofs.root_bytes.Reads as root-bytes
 use Rattle.capture_line.proofs.line_length.Reads as line-length
@@ -166,6 +168,12 @@ one-new-cursor l a x y s t = same
 
 pub one-step : Coincide step.Post (λ l x. x)
 one-step l a x y s t = same
+
+pub one-open-record : Coincide open-record.Post (λ l x. x)
+one-open-record l a x y s t = same
+
+pub one-find : Coincide find.Post (λ l x. x)
+one-find l a x y s t = same
 
 pub one-read-file-name : Coincide read-file-name.Post (λ l x. x)
 one-read-file-name l a x y s t = same

@@ -4,7 +4,6 @@ use Prim.Native.Nat.{ℕ, zero, suc, _+_, _≤_}
 use mathlib.Core.Path.{_≡_, refl, sym, _∙_}
 use mathlib.Core.Bool.{Bool, true, false}
 use native.Mathlib.Omega.{arith}
-use borrow.Author.Tests.{leb-true, le-leb}
 use lib.IntN.{ℤ}
 use Rattle.logic.proofs.Cases.{it, look}
 use Rattle.refusal.specs.declared.Refusal.{Refusal}
@@ -20,7 +19,7 @@ use Rattle.index.specs.Entries.{Entry, Entries, over, broken, last, next
 use Rattle.index.specs.Walk.{levels, Dir, dirOf, Opened, declined, opened, opening, unseen, allow, never}
 use Rattle.index.specs.Listing.{Listing, done, stop, item, andThen, listOpened, listSub, listIn, list, listRoot, listing}
 use Rattle.index.specs.Step.{newCursor, answerAt, sayAt}
-use Rattle.index.proofs.Openings.{OrSpent, same, spent, opening-wider}
+use Rattle.index.proofs.Openings.{OrSpent, same, spent, opening-wider, larger}
 use Rattle.index.proofs.Run.{run}
 
 -- the first is the second, or the second cut off by 12
@@ -89,7 +88,7 @@ more-by m a b w k h = run m b k ∙ upto-say _ _ (upto-listing m a b w) k (λ o 
 pub more-allowance : (m : Memory) (a b k : ℕ) → a ≤ b
     → ((o : ℕ) → answerAt m (allow a) k newCursor ≡ Answer.Refused AllowanceSpent o → ⊥)
     → answerAt m (allow b) k newCursor ≡ answerAt m (allow a) k newCursor
-more-allowance m a b k le h = more-by m (allow a) (allow b) (λ o e. le-leb a o (omega (arith, leb-true b o e))) k h
+more-allowance m a b k le h = more-by m (allow a) (allow b) (larger a b le) k h
 
 pub full-allowance : (m : Memory) (a k : ℕ)
     → ((o : ℕ) → answerAt m (allow a) k newCursor ≡ Answer.Refused AllowanceSpent o → ⊥)

@@ -1,13 +1,14 @@
 -- The opening of a record under a smaller allowance is that under a larger one, or 12.
 -- Every walk asks `opening`, so each walk's promise about more allowance rests on this law.
-use Prim.Native.Nat.{ℕ, zero, suc}
+use Prim.Native.Nat.{ℕ, zero, suc, _≤_}
 use mathlib.Core.Path.{_≡_, refl}
 use mathlib.Core.Bool.{Bool, true, false}
 use native.Mathlib.Omega.{arith}
+use borrow.Author.Tests.{leb-true, le-leb}
 use lib.IntN.{ℤ}
 use Rattle.logic.proofs.Cases.{it, look}
 use Rattle.refusal.specs.declared.Refusal.the-variants.{AllowanceSpent}
-use Rattle.index.specs.Walk.{Dir, Opened, declined, opening, unseen}
+use Rattle.index.specs.Walk.{Dir, Opened, declined, opening, unseen, allow}
 
 pub data OrSpent (under over : Opened) : Type 0 where
   same : under ≡ over → OrSpent under over
@@ -24,3 +25,7 @@ module _ (d : Dir) (vcn : ℤ) where
   opening-wider left true q w = when-spent left q
   opening-wider left false true w = absurd (let e = w refl in let z : _≡_ {A = ℕ} 0 1 = cc in omega arith)
   opening-wider left false false w = same refl
+
+-- a larger allowance is spent where it is only if the smaller one is
+pub larger : (a b : ℕ) → a ≤ b → (o : ℕ) → allow b o ≡ true → allow a o ≡ true
+larger a b le o e = le-leb a o (omega (arith, leb-true b o e))

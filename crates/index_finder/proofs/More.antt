@@ -4,8 +4,6 @@ use Prim.Native.Nat.{ℕ, zero, suc, _+_, _≤_}
 use mathlib.Core.Path.{_≡_, refl}
 use mathlib.Core.Bool.{Bool, true, false, cond}
 use mathlib.Core.List.{List}
-use native.Mathlib.Omega.{arith}
-use borrow.Author.Tests.{leb-true, le-leb}
 use lib.Dec.{ltb, eqb}
 use lib.IntN.{ℤ}
 use lib.ListN.{length}
@@ -21,7 +19,7 @@ use Rattle.index_node.specs.Memory.{Memory}
 use Rattle.index_node.specs.Node.{viewOf}
 use Rattle.index.specs.Entries.{Entry, Entries, over, broken, last, next, entriesAt}
 use Rattle.index.specs.Walk.{levels, Dir, dirOf, Opened, declined, opened, opening, unseen, allow}
-use Rattle.index.proofs.Openings.{OrSpent, opening-wider}
+use Rattle.index.proofs.Openings.{OrSpent, opening-wider, larger}
 use Rattle.index.proofs.Openings as Openings
 use Rattle.index_finder.specs.declared.Finding.{Finding}
 use Rattle.index_finder.specs.declared.Finding.the-variants.{Found, NotFound, Refused}
@@ -85,14 +83,11 @@ settled : (f g : Finding) → Upto f g → ((o : ℕ) → f ≡ Refused Allowanc
 settled f g (same f′) h = refl
 settled f g (cut o g′) h = absurd (h o refl)
 
-wide : (a b : ℕ) → a ≤ b → (o : ℕ) → allow b o ≡ true → allow a o ≡ true
-wide a b le o e = le-leb a o (omega (arith, leb-true b o e))
-
 -- for any kind of key
 pub more-finding : {K : Type 0} (kind : Kind K) (sought : K) (m : Memory) (a b : ℕ) → a ≤ b
     → ((o : ℕ) → finding kind sought m (allow a) ≡ Refused AllowanceSpent o → ⊥)
     → finding kind sought m (allow b) ≡ finding kind sought m (allow a)
-more-finding kind sought m a b le h = settled _ _ (upto-finding kind sought m (allow a) (allow b) (wide a b le)) h
+more-finding kind sought m a b le h = settled _ _ (upto-finding kind sought m (allow a) (allow b) (larger a b le)) h
 
 upto-cond : (q : Bool) (a b c : Finding) → Upto a b → Upto (cond q a c) (cond q b c)
 upto-cond true a b c u = u
@@ -110,4 +105,4 @@ unfolding lookup
 more-lookup table name m a b le h =
     settled _ _
     (upto-cond (eqb (length table) tableUnits) _ _ _
-    (upto-after (ltb mostUnits (length name)) _ _ _ (upto-finding (fileNames table) name m (allow a) (allow b) (wide a b le)))) h
+    (upto-after (ltb mostUnits (length name)) _ _ _ (upto-finding (fileNames table) name m (allow a) (allow b) (larger a b le)))) h
