@@ -1,6 +1,6 @@
 -- A row for each public function: any two results that its contract admits coincide, every part of them.
 -- The rows speak of the contracts as the sources state them, and all go by one law.
-use mathlib.Core.Path.{_≡_, sym, _∙_}
+use mathlib.Core.Path.{_≡_, refl, sym, _∙_}
 use denote.Ref.{now}
 use Rattle.claims.specs.Coincide.{Coincide, LeavesOne}
 use Rattle.le.proofs.le16.Reads as le16
@@ -53,6 +53,8 @@ use Rattle.capture_line.proofs.opened_byte.Reads as opened-byte
 use Rattle.capture_line.proofs.refused_length.Reads as refused-length
 use Rattle.capture_line.proofs.refused_byte.Reads as refused-byte
 use Rattle.capture.proofs.copy_pool.Reads as copy-pool
+use Rattle.c_api.proofs.ntfs_new_cursor.Reads as ntfs-new-cursor
+use Rattle.c_api.proofs.ntfs_step.Reads as ntfs-step
 
 -- two that equal one definition are equal
 same : {A : Type 0} {x y d : A} → x ≡ d → y ≡ d → x ≡ y
@@ -211,3 +213,19 @@ one-copy-pool l a x y s t p q = same (p .0) (q .0)
 
 pub one-copied-pool : LeavesOne copy-pool.Post (λ l s. now (s .1 .0))
 one-copied-pool l a x y s t p q = same (p .1) (q .1)
+
+-- for C: nothing is returned, and every number of the lent arrays is one
+pub one-ntfs-new-cursor : Coincide ntfs-new-cursor.Post (λ l x. x)
+one-ntfs-new-cursor l a x y s t p q = refl
+
+pub one-new-cursor-words : LeavesOne ntfs-new-cursor.Post (λ l s. now (s .0))
+one-new-cursor-words l a x y s t = same
+
+pub one-ntfs-step : Coincide ntfs-step.Post (λ l x. x)
+one-ntfs-step l a x y s t p q = refl
+
+pub one-step-cursor : LeavesOne ntfs-step.Post (λ l s. now (s .1 .1 .1 .1 .0))
+one-step-cursor l a x y s t p q = same (p .0) (q .0)
+
+pub one-step-answer : LeavesOne ntfs-step.Post (λ l s. now (s .1 .1 .1 .1 .1 .0))
+one-step-answer l a x y s t p q = same (p .1) (q .1)

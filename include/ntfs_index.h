@@ -1,0 +1,104 @@
+/* NTFS directory indexes, read with proof: the library for C and C++.
+
+   A directory is lent as three things: its root (the value of $INDEX_ROOT), its pool (all index records one after another, with
+   update sequences undone; of length 0 where the directory has none), and the cluster size of the volume in bytes.
+
+   What is lent. A slice is two arguments, a pointer to its first element and its length in elements. A pointer may not be NULL, not
+   even where the length is 0: lend any address then. It must be aligned as its type asks. Root, pool, table and name are only read.
+   They may overlap each other, but not an array that is written; the two arrays of ntfs_step may not overlap either. Nothing else may
+   write to what is lent until the call returns. No pointer is kept after that.
+
+   Whatever the bytes and the numbers, every call ends, reads nothing outside what was lent, and writes only the arrays named for it.
+   Nothing is allocated, there is no global state, and calls may run at the same time as long as they write different arrays.
+   The library needs memcpy and memset.
+
+   Every number written is fixed by a definition: crates/c_api/specs/Words.antt. */
+#ifndef NTFS_INDEX_H
+#define NTFS_INDEX_H
+
+#include <stddef.h>
+#include <stdint.h>
+
+#ifdef __cplusplus
+extern "C" {
+#endif
+
+enum {
+    NTFS_CURSOR_WORDS = 43,
+    NTFS_ANSWER_WORDS = 6
+};
+
+/* Which number of an answer is what. All that is not said to hold something is 0. */
+enum {
+    NTFS_WHAT = 0,    /* one of NTFS_NONE, NTFS_ENTRY, NTFS_REFUSED */
+    NTFS_REFUSAL = 1, /* of a refusal: its number */
+    NTFS_OPENED = 2,  /* how many records have been opened so far */
+    NTFS_HOLDER = 3,  /* of an entry: NTFS_ROOT or NTFS_POOL, the slice that holds it */
+    NTFS_OFFSET = 4,  /* of an entry: where in that slice it begins, in bytes */
+    NTFS_SIZE = 5     /* of an entry: its length in bytes */
+};
+
+enum {
+    NTFS_NONE = 0,  /* a listing: the end */
+    NTFS_ENTRY = 1, /* a listing: the next entry */
+    NTFS_REFUSED = 2
+};
+
+enum {
+    NTFS_ROOT = 0,
+    NTFS_POOL = 1
+};
+
+/* The refusals. */
+enum {
+    NTFS_ROOT_TOO_SHORT = 1,         /* root shorter than 32 */
+    NTFS_ROOT_START_OUTSIDE = 2,     /* root entries start at or past the root's length */
+    NTFS_ROOT_END_OUTSIDE = 3,       /* root used end past its length */
+    NTFS_ROOT_START_PAST_END = 4,    /* root entries start past the used end */
+    NTFS_LARGE_WITHOUT_POOL = 5,     /* large flag, pool empty */
+    NTFS_SIZE_NOT_ALLOWED = 6,       /* record or cluster size not allowed */
+    NTFS_POOL_NOT_WHOLE_RECORDS = 7, /* pool not whole records */
+    NTFS_ENTRY_SIZE = 8,             /* fewer than 16 bytes remain for an entry, its length is under 16, or exceeds what remains */
+    NTFS_ENTRY_DATA_RANGE = 9,       /* key or VCN ends outside the entry */
+    NTFS_SUBNODE_WITHOUT_POOL = 10,  /* subnode wanted, pool empty */
+    NTFS_TOO_MANY_LEVELS = 11,       /* subnode wanted at level 8 */
+    NTFS_ALLOWANCE_SPENT = 12,       /* as many records opened as allowed, or more */
+    NTFS_VCN_NOWHERE = 13,           /* VCN lies nowhere */
+    NTFS_SIGNATURE = 14,             /* signature not INDX */
+    NTFS_ALLOCATED_SIZE = 15,        /* 24 + allocated size over record size */
+    NTFS_INDEX_SIZE = 16,            /* index size over allocated size */
+    NTFS_OWN_VCN = 17,               /* own VCN not the wanted one */
+    NTFS_KEY_UNREADABLE = 18,        /* key unreadable as a file name */
+    NTFS_TABLE_LENGTH = 19,          /* table not 65,536 units */
+    NTFS_NAME_TOO_LONG = 20,         /* name over 255 units */
+    NTFS_MARKS_TOO_SHORT = 21,       /* marks shorter than the number of records; only the checker gives 21 to 25 */
+    NTFS_REACHED_TWICE = 22,         /* record reached twice */
+    NTFS_NODE_END = 23,              /* node's end wrong */
+    NTFS_KEY_MISSING = 24,           /* entry without LAST_ENTRY has no key */
+    NTFS_NAME_FALLS = 25             /* name less than the one listed before it */
+};
+
+/* A listing that has not begun: writes all 43 numbers of the cursor.
+
+   To a caller the numbers of a cursor mean nothing. Begin with ntfs_new_cursor, and hand the same array to each step. A copy of them is
+   a second listing that goes on from the same place. Any 43 numbers are safe: a step answers something, and never reads outside. What
+   they are, for one who looks: depth, records opened, number of the refusal kept or 0; then for each of 8 levels five: 0 the root or
+   1 a record, the record's VCN in two's complement, the next start, the stage (0 not begun, 1 going, 2 an entry put off, 3 ended), the
+   start of the entry put off. */
+void ntfs_new_cursor(uint64_t cursor[NTFS_CURSOR_WORDS]);
+
+/* One step of a listing: the next entry, the end, or a refusal. Writes the 6 numbers of the answer and the 43 of the cursor to go on with.
+
+   allowance: how many records may be opened in all. After the end every step says the end, after a refusal every step repeats it.
+   The bytes of an entry are at offset in the slice that holder names, and lie in it. */
+void ntfs_step(
+    const uint8_t *root, size_t root_length,
+    const uint8_t *pool, size_t pool_length,
+    size_t cluster, uint64_t allowance,
+    uint64_t cursor[NTFS_CURSOR_WORDS], uint64_t answer[NTFS_ANSWER_WORDS]);
+
+#ifdef __cplusplus
+}
+#endif
+
+#endif

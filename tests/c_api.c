@@ -1,0 +1,120 @@
+/* Lists a small directory from C and looks at every number: rt staticlib c_api, then
+   cc -std=c99 -Wall -Wextra -pedantic -Iinclude tests/c_api.c target/staticlib/libc_api.a -o target/c_api && target/c_api */
+#include "ntfs_index.h"
+#include <stdio.h>
+#include <string.h>
+
+enum { RECORD = 512, ROOT_ENTRY = 32, ROOT_LAST = ROOT_ENTRY + 88, ROOT_SIZE = ROOT_LAST + 24 };
+
+static uint8_t root[ROOT_SIZE];
+static uint8_t pool[2 * RECORD];
+static int faults;
+
+static void put(uint8_t *at, int bytes, uint64_t n)
+{
+    for (int i = 0; i < bytes; i++)
+        at[i] = (uint8_t)(n >> (8 * i));
+}
+
+/* An entry of this length: its flags, and a key of one unit where it has a name; with the flag 1 its subnode's VCN ends it. */
+static void put_entry(uint8_t *at, unsigned length, unsigned flags, unsigned name, uint64_t vcn)
+{
+    put(at + 8, 2, length);
+    put(at + 10, 2, name != 0 ? 68 : 0);
+    put(at + 12, 2, flags);
+    if (name != 0) {
+        at[16 + 64] = 1;
+        at[16 + 65] = 1;
+        put(at + 16 + 66, 2, name);
+    }
+    if (flags & 1)
+        put(at + length - 8, 8, vcn);
+}
+
+/* The root: B, and a LAST_ENTRY whose subnode is the second record, with C. */
+static void build(void)
+{
+    put(root, 4, 0x30);
+    put(root + 4, 4, 1);
+    put(root + 8, 4, RECORD);
+    put(root + 12, 4, 1);
+    put(root + 16, 4, 16);
+    put(root + 20, 4, ROOT_SIZE - 16);
+    put(root + 24, 4, ROOT_SIZE - 16);
+    put(root + 28, 4, 1);
+    put_entry(root + ROOT_ENTRY, 88, 0, 'B', 0);
+    put_entry(root + ROOT_LAST, 24, 3, 0, 1);
+    uint8_t *second = pool + RECORD;
+    memcpy(second, "INDX", 4);
+    put(second + 16, 8, 1);
+    put(second + 24, 4, 40);
+    put(second + 28, 4, 40 + 88 + 16);
+    put(second + 32, 4, RECORD - 24);
+    put_entry(second + 64, 88, 0, 'C', 0);
+    put_entry(second + 64 + 88, 16, 2, 0, 0);
+}
+
+static void expect(const char *what, const uint64_t *found, const uint64_t *wanted, size_t n)
+{
+    for (size_t i = 0; i < n; i++)
+        if (found[i] != wanted[i]) {
+            printf("%s: number %u is %llu, not %llu\n", what, (unsigned)i, (unsigned long long)found[i], (unsigned long long)wanted[i]);
+            faults++;
+        }
+}
+
+static void expect_step(const char *what, uint64_t allowance, uint64_t *cursor, const uint64_t *wanted)
+{
+    uint64_t answer[NTFS_ANSWER_WORDS];
+    memset(answer, 0xFF, sizeof answer);
+    ntfs_step(root, sizeof root, pool, sizeof pool, RECORD, allowance, cursor, answer);
+    expect(what, answer, wanted, NTFS_ANSWER_WORDS);
+}
+
+int main(void)
+{
+    static const uint64_t in_root[] = {NTFS_ENTRY, 0, 0, NTFS_ROOT, ROOT_ENTRY, 88};
+    static const uint64_t in_pool[] = {NTFS_ENTRY, 0, 1, NTFS_POOL, RECORD + 64, 88};
+    static const uint64_t end[] = {NTFS_NONE, 0, 1, 0, 0, 0};
+    static const uint64_t spent[] = {NTFS_REFUSED, NTFS_ALLOWANCE_SPENT, 0, 0, 0, 0};
+    static const uint64_t short_root[] = {NTFS_REFUSED, NTFS_ROOT_TOO_SHORT, 0, 0, 0, 0};
+    uint64_t cursor[NTFS_CURSOR_WORDS], fresh[NTFS_CURSOR_WORDS] = {1}, kept[NTFS_CURSOR_WORDS] = {0, 0, 12};
+    uint64_t answer[NTFS_ANSWER_WORDS];
+
+    build();
+    memset(cursor, 0xFF, sizeof cursor);
+    ntfs_new_cursor(cursor);
+    expect("new cursor", cursor, fresh, NTFS_CURSOR_WORDS);
+    expect_step("first", 9, cursor, in_root);
+    expect_step("second", 9, cursor, in_pool);
+    expect_step("end", 9, cursor, end);
+    expect_step("end again", 9, cursor, end);
+
+    ntfs_new_cursor(cursor);
+    expect_step("first of none", 0, cursor, in_root);
+    expect_step("allowance", 0, cursor, spent);
+    expect("refusal kept", cursor, kept, NTFS_CURSOR_WORDS);
+    expect_step("allowance again", 9, cursor, spent);
+
+    ntfs_new_cursor(cursor);
+    ntfs_step(root, 31, pool, sizeof pool, RECORD, 9, cursor, answer);
+    expect("short root", answer, short_root, NTFS_ANSWER_WORDS);
+
+    /* any numbers are safe, and an entry told lies in what holds it */
+    uint64_t seed = 1;
+    for (int i = 0; i < 100000; i++) {
+        for (int k = 0; k < NTFS_CURSOR_WORDS; k++) {
+            seed = seed * 6364136223846793005u + 1442695040888963407u;
+            cursor[k] = (seed >> 40 & 3) ? seed >> 33 & 3 : seed >> (seed >> 58);
+        }
+        cursor[2] = seed >> 60 ? 0 : cursor[2];
+        ntfs_step(root, sizeof root, pool, sizeof pool, RECORD, 9, cursor, answer);
+        uint64_t held = answer[NTFS_HOLDER] == NTFS_ROOT ? sizeof root : sizeof pool;
+        if (answer[NTFS_WHAT] > NTFS_REFUSED || answer[NTFS_OFFSET] > held || answer[NTFS_SIZE] > held - answer[NTFS_OFFSET]) {
+            printf("any numbers: round %d\n", i);
+            faults++;
+        }
+    }
+    puts(faults == 0 ? "c_api: every number is as it should be" : "c_api: failed");
+    return faults != 0;
+}
