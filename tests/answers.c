@@ -18,16 +18,13 @@
 #include <stdlib.h>
 #include <string.h>
 
+#include "ntfs_index.h"
+
+void ntfs_find(const uint8_t *root, size_t root_length, const uint8_t *pool, size_t pool_length, size_t cluster, const uint16_t *table,
+               size_t table_length, const uint16_t *name, size_t name_length, uint64_t allowance, uint64_t answer[NTFS_ANSWER_WORDS]);
+
 #define TABLE 65536
 #define TABLES 4096
-
-void ntfs_new_cursor(uint64_t cursor[43]);
-void ntfs_step(const uint8_t *root, size_t root_len, const uint8_t *pool, size_t pool_len, size_t cluster, uint64_t allowance,
-               uint64_t cursor[43], uint64_t answer[6]);
-void ntfs_find(const uint8_t *root, size_t root_len, const uint8_t *pool, size_t pool_len, size_t cluster, const uint16_t *table,
-               size_t table_len, const uint16_t *name, size_t name_len, uint64_t allowance, uint64_t answer[6]);
-
-enum { WHAT, REFUSAL, OPENED, HOLDER, OFFSET, SIZE };
 
 typedef struct {
     char *name;
@@ -148,22 +145,28 @@ static int define_table(char **field, int n) {
     return 0;
 }
 
+static void print_number(const char *before, uint64_t n) {
+    printf("%s%llu", before, (unsigned long long)n);
+}
+
 static void print_entry(const uint64_t *answer) {
-    printf("%s:%llu:%llu:%llu", answer[HOLDER] ? "pool" : "root", (unsigned long long)answer[OFFSET], (unsigned long long)answer[SIZE],
-           (unsigned long long)answer[OPENED]);
+    print_number(answer[NTFS_HOLDER] == NTFS_POOL ? "pool:" : "root:", answer[NTFS_OFFSET]);
+    print_number(":", answer[NTFS_SIZE]);
+    print_number(":", answer[NTFS_OPENED]);
 }
 
 static void print_ending(const char *end, const uint64_t *answer) {
-    if (answer[WHAT] == 2) printf(" refused:%llu:%llu", (unsigned long long)answer[REFUSAL], (unsigned long long)answer[OPENED]);
-    else printf(" %s:%llu", end, (unsigned long long)answer[OPENED]);
+    if (answer[NTFS_WHAT] == NTFS_REFUSED) print_number(" refused:", answer[NTFS_REFUSAL]);
+    else printf(" %s", end);
+    print_number(":", answer[NTFS_OPENED]);
 }
 
 static void list(size_t cluster, Bytes root, Bytes pool) {
-    uint64_t cursor[43], answer[6] = {0};
+    uint64_t cursor[NTFS_CURSOR_WORDS], answer[NTFS_ANSWER_WORDS] = {0};
     ntfs_new_cursor(cursor);
     for (uint64_t k = 0; k < yields; k++) {
         ntfs_step(root.bytes, root.size, pool.bytes, pool.size, cluster, allowance, cursor, answer);
-        if (answer[WHAT] != 1) {
+        if (answer[NTFS_WHAT] != NTFS_ENTRY) {
             print_ending("end", answer);
             return;
         }
@@ -174,9 +177,9 @@ static void list(size_t cluster, Bytes root, Bytes pool) {
 }
 
 static void find(size_t cluster, Bytes root, Bytes pool, const Table *t, const uint16_t *name, size_t count) {
-    uint64_t answer[6] = {0};
+    uint64_t answer[NTFS_ANSWER_WORDS] = {0};
     ntfs_find(root.bytes, root.size, pool.bytes, pool.size, cluster, t->units, t->count, name, count, allowance, answer);
-    if (answer[WHAT] == 1) {
+    if (answer[NTFS_WHAT] == NTFS_ENTRY) {
         printf(" found:");
         print_entry(answer);
     } else {

@@ -32,7 +32,7 @@ def build_answers(work, archive=None):
         archive = TOP / "target/staticlib/libc_api.a"
     program = work / "answers"
     compiler = os.environ.get("CC") or next(c for c in ("cc", "gcc", "clang") if shutil.which(c))
-    subprocess.run([compiler, "-std=c11", "-O2", "-o", program, TOP / "tests/answers.c", archive], check=True)
+    subprocess.run([compiler, "-std=c11", "-O2", "-I", TOP / "include", "-o", program, TOP / "tests/answers.c", archive], check=True)
     return program
 
 
