@@ -39,8 +39,8 @@ enum {
 };
 
 enum {
-    NTFS_NONE = 0,  /* a listing: the end */
-    NTFS_ENTRY = 1, /* a listing: the next entry */
+    NTFS_NONE = 0,  /* a listing: the end; a lookup: not found */
+    NTFS_ENTRY = 1, /* a listing: the next entry; a lookup: the entry found */
     NTFS_REFUSED = 2
 };
 
@@ -96,6 +96,18 @@ void ntfs_step(
     const uint8_t *pool, size_t pool_length,
     size_t cluster, uint64_t allowance,
     uint64_t cursor[NTFS_CURSOR_WORDS], uint64_t answer[NTFS_ANSWER_WORDS]);
+
+/* Lookup of a name: the entry found, not found, or a refusal. Writes the 6 numbers of the answer.
+
+   table: the upcase table of the volume, 65,536 units; name: the name's UTF-16 units, at most 255. Both lengths count units, and units are in
+   the machine's own byte order. allowance: how many records may be opened. */
+void ntfs_find(
+    const uint8_t *root, size_t root_length,
+    const uint8_t *pool, size_t pool_length,
+    size_t cluster,
+    const uint16_t *table, size_t table_length,
+    const uint16_t *name, size_t name_length,
+    uint64_t allowance, uint64_t answer[NTFS_ANSWER_WORDS]);
 
 #ifdef __cplusplus
 }

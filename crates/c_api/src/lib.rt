@@ -1,10 +1,10 @@
 // The library for C and Rust: numbers and lent slices in, the answer as numbers in a lent array. include/ntfs_index.h tells it to a C caller.
 ghost use mathlib.Core.Path.{_≡_};
 ghost use Prim.Native.Nat.{_+_, _≤_};
-ghost use Rattle.le.specs.Le.{signed64};
 ghost use Rattle.index_node.specs.Memory.{memory};
 ghost use Rattle.index.specs.Walk.{allow};
 ghost use Rattle.index.specs.Step.{newCursor, stepOf};
+ghost use Rattle.index_finder.specs.Find.{lookup};
 ghost use Rattle.c_api.specs.Words.{spanIn, placeSpan, entryWords, refusalWords, noneWords, answerWords, findingWords};
 ghost use Rattle.c_api.specs.Words.{bits64, nodeWord, vcnWord, nodeFrom, stageWord, dueWord, stageFrom, keptWord, keptFrom};
 ghost use Rattle.c_api.specs.Words.{levelWords, levelFrom, stored, cursorWords, cursorFrom};
@@ -122,16 +122,6 @@ fn finding_words<'a>(root: &'a [u8], pool: &'a [u8], cluster: usize, f: Finding)
 }
 
 // Two's complement, with no cast that could lose a bit.
-fn signed(x: u64) -> i64
-    ensures { λ r. ⌜ r ≡ signed64 x ⌝ }
-{
-    if x < 0x8000_0000_0000_0000 {
-        x as i64
-    } else {
-        !((0xFFFF_FFFF_FFFF_FFFF - x) as i64)
-    }
-}
-
 fn bits(v: i64) -> u64
     ensures { λ r. ⌜ r ≡ bits64 v ⌝ }
 {
@@ -148,7 +138,7 @@ fn node_from(node: u64, vcn: u64) -> Node
     if node == 0 {
         return Node::Root;
     }
-    Node::Record(signed(vcn))
+    Node::Record(le::signed(vcn))
 }
 
 fn stage_from(stage: u64, due: u64) -> Stage
@@ -338,4 +328,22 @@ pub extern "C" fn ntfs_step<'a>(
     let x = cursor_words(c);
     *answer = w;
     *cursor = x;
+}
+
+// Lookup of a name under an upcase table.
+#[no_mangle]
+pub extern "C" fn ntfs_find<'a>(
+    root: &'a [u8],
+    pool: &'a [u8],
+    cluster: usize,
+    table: &[u16],
+    name: &[u16],
+    allowance: u64,
+    answer: &mut [u64; 6],
+)
+    ensures { λ _. ⌜ now (answer .exit) ≡ findingWords (memory (now (root .entry)) (now (pool .entry)) cluster) (lookup (now (table .entry)) (now (name .entry)) (memory (now (root .entry)) (now (pool .entry)) cluster) (allow allowance)) ⌝ }
+{
+    let f = index_finder::find(root, pool, cluster, table, name, allowance);
+    let found = finding_words(root, pool, cluster, f);
+    *answer = found;
 }

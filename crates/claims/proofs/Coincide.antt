@@ -7,6 +7,7 @@ use Rattle.le.proofs.le16.Reads as le16
 use Rattle.le.proofs.le32.Reads as le32
 use Rattle.le.proofs.le48.Reads as le48
 use Rattle.le.proofs.le64.Reads as le64
+use Rattle.le.proofs.signed.Reads as signed
 use Rattle.le.proofs.signed_le64.Reads as signed-le64
 use Rattle.ordering.proofs.compare.Reads as compare
 use Rattle.refusal.proofs.Refusal.number.Reads as number
@@ -55,6 +56,7 @@ use Rattle.capture_line.proofs.refused_byte.Reads as refused-byte
 use Rattle.capture.proofs.copy_pool.Reads as copy-pool
 use Rattle.c_api.proofs.ntfs_new_cursor.Reads as ntfs-new-cursor
 use Rattle.c_api.proofs.ntfs_step.Reads as ntfs-step
+use Rattle.c_api.proofs.ntfs_find.Reads as ntfs-find
 
 -- two that equal one definition are equal
 same : {A : Type 0} {x y d : A} → x ≡ d → y ≡ d → x ≡ y
@@ -71,6 +73,9 @@ one-le48 l a x y s t = same
 
 pub one-le64 : Coincide le64.Post (λ l x. x)
 one-le64 l a x y s t = same
+
+pub one-signed : Coincide signed.Post (λ l x. x)
+one-signed l a x y s t = same
 
 pub one-signed-le64 : Coincide signed-le64.Post (λ l x. x)
 one-signed-le64 l a x y s t = same
@@ -229,3 +234,9 @@ one-step-cursor l a x y s t p q = same (p .0) (q .0)
 
 pub one-step-answer : LeavesOne ntfs-step.Post (λ l s. now (s .1 .1 .1 .1 .1 .0))
 one-step-answer l a x y s t p q = same (p .1) (q .1)
+
+pub one-ntfs-find : Coincide ntfs-find.Post (λ l x. x)
+one-ntfs-find l a x y s t p q = refl
+
+pub one-find-answer : LeavesOne ntfs-find.Post (λ l s. now (s .1 .1 .1 .1 .1 .1 .0))
+one-find-answer l a x y s t = same

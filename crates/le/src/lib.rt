@@ -98,7 +98,7 @@ pub fn le64(s: &[u8], at: usize) -> u64
 }
 
 // Two's complement, with no cast that could lose a bit.
-fn signed(x: u64) -> i64
+pub fn signed(x: u64) -> i64
     ensures { λ r. ⌜ r ≡ signed64 x ⌝ }
 {
     if x < 0x8000_0000_0000_0000 {
