@@ -1,9 +1,10 @@
-// Replays stored cases whose answers are others': the crate's and libntfs-3g's. Reads cases from standard input, prints a line for each.
+// Replays stored cases whose answers are others': 01's own, the crate's and libntfs-3g's. Reads cases from standard input, prints a line for each.
 // A case: the size u32 of what follows the operation, at most 65,536; the operation u32; then
 //   1 memory: cluster size u32, root length u32, pool length u32, the root, the pool. Kept for the cases that follow.
 //   2 the table T, 3 the identity: nothing. 4, 5 the lower and the upper half of a table: 65,536 bytes. Kept too.
 //   6 a listing: its label. 7 a lookup: length u32 of the label, the label, the name's units.
 //   8 and 9 as 6 and 7, but an entry is shown by its file reference and name, and no count of records opened.
+//   10 the allowance u32, how many units of the table are lent u32, then as 7.
 ghost use Prim.Native.Nat.{_<_};
 use file_reference::FileReference;
 use index::Answer;
@@ -36,6 +37,8 @@ const LOOKUP: usize = 7;
 const LISTING_OF_NAMES: usize = 8;
 
 const LOOKUP_OF_NAMES: usize = 9;
+
+const LOOKUP_LENT: usize = 10;
 
 // More than the longest name.
 const UNITS: usize = 256;
@@ -236,7 +239,7 @@ fn upper_of(unit: u16) -> u16 {
 }
 
 // The sought name as units, and what the lookup of it answers.
-fn look_up(memory: &[u8], table: &[u16], name: &[u8], names: bool) {
+fn look_up(memory: &[u8], table: &[u16], name: &[u8], allowance: u64, names: bool) {
     let mut units = [0u16; UNITS];
     fill(&mut units, 0, name);
     let n = name.len() / 2;
@@ -250,7 +253,7 @@ fn look_up(memory: &[u8], table: &[u16], name: &[u8], names: bool) {
         cluster_of(memory),
         table,
         &units[0..n],
-        ALLOWANCE,
+        allowance,
     ) {
         Finding::Found { place, opened } => print_found(memory, place, opened, names),
         Finding::NotFound(opened) => print_end(b" missing", opened, names),
@@ -264,13 +267,24 @@ fn run_listing(case: &[u8], memory: &[u8], names: bool) {
     print(b"\n");
 }
 
-fn run_lookup(case: &[u8], memory: &[u8], table: &[u16], names: bool) {
+fn run_lookup(case: &[u8], memory: &[u8], table: &[u16], allowance: u64, names: bool) {
     let label = number_at(case, 0);
     print(cut(case, 4, label));
     if 4 + label <= case.len() {
-        look_up(memory, table, &case[4 + label..], names);
+        look_up(memory, table, &case[4 + label..], allowance, names);
     }
     print(b"\n");
+}
+
+// With an allowance and a part of the table, as the case says.
+fn run_lent(case: &[u8], memory: &[u8], table: &[u16]) {
+    let allowance = number_at(case, 0) as u64;
+    let units = number_at(case, 4);
+    if 8 <= case.len() {
+        if units <= table.len() {
+            run_lookup(&case[8..], memory, &table[0..units], allowance, false);
+        }
+    }
 }
 
 fn run_case(operation: usize, case: &[u8], memory: &[u8], table: &mut [u16]) {
@@ -287,9 +301,11 @@ fn run_case(operation: usize, case: &[u8], memory: &[u8], table: &mut [u16]) {
     } else if operation == LISTING_OF_NAMES {
         run_listing(case, memory, true);
     } else if operation == LOOKUP {
-        run_lookup(case, memory, table, false);
+        run_lookup(case, memory, table, ALLOWANCE, false);
     } else if operation == LOOKUP_OF_NAMES {
-        run_lookup(case, memory, table, true);
+        run_lookup(case, memory, table, ALLOWANCE, true);
+    } else if operation == LOOKUP_LENT {
+        run_lent(case, memory, table);
     }
 }
 
