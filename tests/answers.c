@@ -20,9 +20,6 @@
 
 #include "ntfs_index.h"
 
-void ntfs_find(const uint8_t *root, size_t root_length, const uint8_t *pool, size_t pool_length, size_t cluster, const uint16_t *table,
-               size_t table_length, const uint16_t *name, size_t name_length, uint64_t allowance, uint64_t answer[NTFS_ANSWER_WORDS]);
-
 #define TABLE 65536
 #define TABLES 4096
 
