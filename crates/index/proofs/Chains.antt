@@ -48,8 +48,8 @@ sees-entry m view at e h d = elim (look (entryAt (viewBytes (m .root) (m .pool) 
   | it absent p ↦ absurd (let z : _≡_ {A = ℕ} 0 1 = cc (rw p at d) in omega arith)
   | it (refused r) p ↦ absurd (let z : _≡_ {A = ℕ} 0 1 = cc (rw p at d) in omega arith)
   | it (present bytes) p ↦
-      let s : present (entryOf (view .node) at bytes) ≡ present e = rw p at d in
-      let same : entryOf (view .node) at bytes ≡ e = cc in
+      let s : present (entryOf view at bytes) ≡ present e = rw p at d in
+      let same : entryOf view at bytes ≡ e = cc in
       let x = entered (viewBytes (m .root) (m .pool) view) at bytes p in
       rw (← same) (record {
         near = h;

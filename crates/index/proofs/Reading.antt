@@ -15,6 +15,7 @@ use Rattle.refusal.specs.declared.Refusal.the-variants.{SubnodeWithoutPool, Too
 use Rattle.refusal.specs.Part.{Part, absent, refused, present, bytesOf}
 use Rattle.index_root.specs.declared.Judged.the-variants as Judged
 use Rattle.index_allocation.specs.declared.Lies.the-variants as Lies
+use Rattle.ordering.specs.Order.{order}
 use Rattle.index_entry.specs.declared.EntryAt.{EntryAt}
 use Rattle.index_entry.specs.declared.EntryAt.the-variants as EntryAt
 use Rattle.index_entry.specs.Entry.{isLast, entryAt, entrySays, keyOf, subnodeOf}
@@ -69,7 +70,7 @@ module _ (bytes : List ℕ) (view : View) (at : ℕ) where
   own = bytesOf (entryAt bytes at)
 
   abbrev pub seen : Place → Entry
-  seen p = record { place = p; final = isLast own; key = keyOf own; sub = subnodeOf own }
+  seen p = record { place = p; final = isLast own; ends = order (at + length own) (view .used); key = keyOf own; sub = subnodeOf own }
 
   pub look-entry : (p : Place) → nextIn bytes view at ≡ Next.Entry p
       → lookIn bytes view at ≡ met (seen p)
@@ -105,11 +106,11 @@ abbrev pub stands : Node → ℕ → EntryAt → Standing
 stands node at (EntryAt.Refused r) = Standing.Refused r
 stands node at (EntryAt.Entry size) = Standing.Entry (record { node = node; at = at; size = size })
 
-pub stands-as : (node : Node) (at : ℕ) (p : Part (List ℕ)) (said : EntryAt) → said ≡ entrySays p → stands node at said ≡ standingSays
-    (entryPart node at p)
-stands-as node at absent said e = rw e
-stands-as node at (refused r) said e = rw e
-stands-as node at (present s) said e = rw e
+pub stands-as : (view : View) (at : ℕ) (p : Part (List ℕ)) (said : EntryAt) → said ≡ entrySays p → stands (view .node) at said ≡ standingSays
+    (entryPart view at p)
+stands-as view at absent said e = rw e
+stands-as view at (refused r) said e = rw e
+stands-as view at (present s) said e = rw e
 
 pub judged-refused : (p : Part Entry) (r : Refusal) → standingSays p ≡ Standing.Refused r → Judged.Refused r ≡ judgedEntry p
 judged-refused absent r e = cc

@@ -8,6 +8,8 @@ use lib.ListN.{length}
 use Rattle.refusal.specs.declared.Refusal.{Refusal}
 use Rattle.refusal.specs.declared.Refusal.the-variants.{EntrySize}
 use Rattle.refusal.specs.Part.{Part, absent, refused, present}
+use Rattle.ordering.specs.declared.Ordering.{Ordering}
+use Rattle.ordering.specs.Order.{order}
 use Rattle.index_entry.specs.Entry.{isLast, entryAt, keyOf, subnodeOf}
 use Rattle.index_node.specs.declared.Node.{Node}
 use Rattle.index_node.specs.declared.View.{View}
@@ -17,29 +19,31 @@ use Rattle.index_node.specs.declared.Place.{Place}
 use Rattle.index_node.specs.Memory.{Memory, viewBytes}
 use Rattle.index_node.specs.Node.{viewOf}
 
--- an entry as a walk meets it: its place, whether it is a LAST_ENTRY, its key part, its subnode
+-- an entry as a walk meets it: its place, whether it is a LAST_ENTRY, its end against the used end, its key part, its subnode
 pub record Entry : Type 0 where
   pub place : Place
   pub final : Bool
+  pub ends : Ordering
   pub key : Part (List ℕ)
   pub sub : Part ℤ
 
-abbrev pub entryOf : Node → ℕ → List ℕ → Entry
-entryOf node at bytes = record {
-  place = record { node = node; at = at; size = length bytes };
+abbrev pub entryOf : View → ℕ → List ℕ → Entry
+entryOf view at bytes = record {
+  place = record { node = view .node; at = at; size = length bytes };
   final = isLast bytes;
+  ends = order (at + length bytes) (view .used);
   key = keyOf bytes;
   sub = subnodeOf bytes;
 }
 
-abbrev pub entryPart : Node → ℕ → Part (List ℕ) → Part Entry
-entryPart node at absent = absent
-entryPart node at (refused r) = refused r
-entryPart node at (present bytes) = present (entryOf node at bytes)
+abbrev pub entryPart : View → ℕ → Part (List ℕ) → Part Entry
+entryPart view at absent = absent
+entryPart view at (refused r) = refused r
+entryPart view at (present bytes) = present (entryOf view at bytes)
 
 -- the entry that starts at at in a node's bytes, or 8
 unfoldable pub metIn : List ℕ → View → ℕ → Part Entry
-metIn bytes view at = entryPart (view .node) at (entryAt bytes at)
+metIn bytes view at = entryPart view at (entryAt bytes at)
 
 -- what a walk meets at a position: nothing more, a refusal, an entry
 pub data Look : Type 0 where

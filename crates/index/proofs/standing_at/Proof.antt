@@ -37,7 +37,7 @@ returns c = rw (← c .before .before .before .open-node .ensures, c .before .r 
 returns-2 : tie.Need-returns-2
 unfolding metAt metIn
 returns-2 c =
-    let e = stands-as ((c .before .before .before .before .before .before .view .given .0 .0) .node)
+    let e = stands-as (c .before .before .before .before .before .before .view .given .0 .0)
     (c .before .before .before .before .before .before .before .before .before .before .before .args .at)
     (entryAt (viewBytes (now (c .before .before .before .before .before .before .before .before .before .before .before .args .root))
     (now (c .before .before .before .before .before .before .before .before .before .before .before .args .pool))
@@ -53,7 +53,7 @@ returns-2 c =
 returns-3 : tie.Need-returns-3
 unfolding metAt metIn
 returns-3 c =
-    let e = stands-as ((c .before .before .before .before .before .before .view .given .0 .0) .node)
+    let e = stands-as (c .before .before .before .before .before .before .view .given .0 .0)
     (c .before .before .before .before .before .before .before .before .before .before .before .args .at)
     (entryAt (viewBytes (now (c .before .before .before .before .before .before .before .before .before .before .before .args .root))
     (now (c .before .before .before .before .before .before .before .before .before .before .before .args .pool))
