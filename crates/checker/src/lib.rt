@@ -1,8 +1,245 @@
 // The checker: what lets an installer trust a stick.
+ghost use mathlib.Core.Path.{_≡_};
+ghost use Prim.Native.Nat.{_≤_, _<_, _+_};
+ghost use mathlib.Core.Bool.{false};
+ghost use lib.ListN.{length, drop, set};
+ghost use Rattle.upcase_table.specs.Names.{tableUnits};
+ghost use Rattle.index_entry.specs.Entry.{keyOf, subnodeOf, subnodeSays};
+ghost use Rattle.index_node.specs.declared.Viewed.the-variants as Viewed;
+ghost use Rattle.refusal.specs.Part.{bytesOf};
+ghost use Rattle.file_name.specs.Name.{nameOf};
+ghost use Rattle.index_node.specs.Memory.{memory, placeBytes};
+ghost use Rattle.index_node.specs.Node.{viewOf};
+ghost use Rattle.index.specs.Entries.{lookIn, entriesAt};
+ghost use Rattle.index.specs.Walk.{dirOf, opening};
+ghost use Rattle.index_finder.specs.Kind.{fileNames, keyRead};
+ghost use Rattle.checker.specs.Check.{marked, falls, check, recordsOf, cleared, checker};
+ghost use Rattle.checker.specs.Turn.{keySound, withSub, judgeOf, freshSays, nameAt, beforeOf, closes, stateOf, checkedSays, countOf, ones};
+use file_name::FileName;
+use index_allocation::Lies;
+use index_entry::KeyPart;
+use index_entry::Subnode;
+use index_node::Node;
+use index_node::Place;
+use index_node::View;
+use index_node::Viewed;
+use index_root::Judged;
+use ordering::Ordering;
 use refusal::Refusal;
+use upcase_table::Compared;
+
+const UPCASE_CHARACTER_COUNT: usize = 65536;
+
+const LEVELS_BELOW_ROOT: usize = 7;
 
 // What the checker answers: a pass with the count of records reached, or the first fault with the count of records whose checks have passed.
 pub enum Checking {
     Passed(u64),
     Refused { refusal: Refusal, opened: u64 },
+}
+
+// The name listed last, by its entry's place.
+enum Before {
+    Nothing,
+    Name(Place),
+}
+
+struct Walk {
+    pub count: u64,
+    pub before: Before,
+}
+
+enum Outcome {
+    Fine(Walk),
+    Fault { refusal: Refusal, count: u64 },
+}
+
+// An entry that shows no fault by itself.
+struct Sound {
+    pub place: Place,
+    pub next: usize,
+    pub last: bool,
+}
+
+// What an entry shows by itself: 8, 23, 24, 9 and 18 of its key, 9 of its VCN; or it is sound, with or without a subnode.
+enum Judgement {
+    Fault(Refusal),
+    Leaf(Sound),
+    Fork { entry: Sound, vcn: i64 },
+}
+
+// A subnode's record, reached for the first time.
+enum Fresh {
+    Refused(Refusal),
+    Record { number: usize, view: View },
+}
+
+// After an entry and its subnode: the node is done, or goes on.
+enum Closed {
+    Done(Outcome),
+    Onward(Walk),
+}
+
+// No key: 24; key: 9, 18.
+fn judge_key(entry: &[u8]) -> Judged
+    ensures { λ r. ⌜ r ≡ keySound (keyOf (now (entry .entry))) ⌝ }
+{
+    match index_entry::key(entry) {
+        KeyPart::Absent => Judged::Refused(Refusal::KeyMissing),
+        KeyPart::Refused(r) => Judged::Refused(r),
+        KeyPart::Present => match file_name::read_file_name(index_entry::key_bytes(entry)) {
+            FileName::Refused(_) => Judged::Refused(Refusal::KeyUnreadable),
+            FileName::Name {
+                namespace: _,
+                units: _,
+            } => Judged::Fine,
+        },
+    }
+}
+
+fn judge_sub(bytes: &[u8], entry: Sound) -> Judgement
+    ensures { λ r. ⌜ r ≡ withSub entry (subnodeSays (subnodeOf (now (bytes .entry)))) ⌝ }
+{
+    match index_entry::subnode_vcn(bytes) {
+        Subnode::Absent => Judgement::Leaf(entry),
+        Subnode::Refused(r) => Judgement::Fault(r),
+        Subnode::Vcn(vcn) => Judgement::Fork { entry, vcn },
+    }
+}
+
+// The entry at a position of a node, lent as its bytes.
+fn judge_entry(bytes: &[u8], view: View, at: usize) -> Judgement
+    ensures { λ r. ⌜ r ≡ judgeOf (lookIn (now (bytes .entry)) view at) ⌝ }
+{
+    match index_node::next_entry(bytes, view, at) {
+        index_node::Next::Over => Judgement::Fault(Refusal::NodeEnd),
+        index_node::Next::Refused(r) => Judgement::Fault(r),
+        index_node::Next::Entry(place) => {
+            let entry = index_entry::entry_bytes(bytes, at);
+            let next = at + place.size;
+            let last = index_entry::is_last_entry(entry);
+            let judged = judge_sub(entry, Sound { place, next, last });
+            if view.used < next {
+                return Judgement::Fault(Refusal::NodeEnd);
+            }
+            if last {
+                if next < view.used {
+                    return Judgement::Fault(Refusal::NodeEnd);
+                }
+                return judged;
+            }
+            match judge_key(entry) {
+                Judged::Refused(r) => Judgement::Fault(r),
+                Judged::Fine => judged,
+            }
+        }
+    }
+}
+
+// A subnode's 10, 11, 13, 22, 14 to 17.
+fn open_fresh<'a>(
+    root: &'a [u8],
+    pool: &'a [u8],
+    cluster: usize,
+    marks: &[u8],
+    left: usize,
+    vcn: i64,
+) -> Fresh
+    ensures { λ r. ⌜ r ≡ freshSays (memory (now (root .entry)) (now (pool .entry)) cluster) vcn (opening (dirOf (memory (now (root .entry)) (now (pool .entry)) cluster)) left false (marked (now (marks .entry))) vcn) ⌝ }
+{
+    if pool.len() == 0 {
+        return Fresh::Refused(Refusal::SubnodeWithoutPool);
+    }
+    if left == 0 {
+        return Fresh::Refused(Refusal::TooManyLevels);
+    }
+    let size = index_root::index_record_size(root);
+    match index_allocation::record_from_vcn(vcn, cluster, size, pool.len()) {
+        Lies::Refused(r) => Fresh::Refused(r),
+        Lies::Record(number) => {
+            if is_marked(marks, number) {
+                return Fresh::Refused(Refusal::ReachedTwice);
+            }
+            match index_node::open_node(root, pool, cluster, Node::Record(vcn)) {
+                Viewed::Refused(r) => Fresh::Refused(r),
+                Viewed::Fine(view) => Fresh::Record { number, view },
+            }
+        }
+    }
+}
+
+fn is_marked(marks: &[u8], number: usize) -> bool
+    ensures { λ r. ⌜ r ≡ marked (now (marks .entry)) number ⌝ }
+{
+    if number < marks.len() {
+        return marks[number] == 1;
+    }
+    false
+}
+
+// The name of an entry, by its place.
+fn name_at<'a>(root: &'a [u8], pool: &'a [u8], cluster: usize, place: Place) -> &'a [u8]
+    ensures { λ r. ⌜ now r ≡ nameOf (bytesOf (keyOf (placeBytes (memory (now (root .entry)) (now (pool .entry)) cluster) place))) ⌝ }
+{
+    let entry = index_node::place_bytes(root, pool, cluster, place);
+    file_name::name(index_entry::key_bytes(entry))
+}
+
+// 25: less than the name listed before it.
+fn name_falls<'a>(
+    root: &'a [u8],
+    pool: &'a [u8],
+    cluster: usize,
+    table: &[u16],
+    before: Before,
+    place: Place,
+) -> bool
+    requires { ⌜ length (now table) ≡ tableUnits ⌝ }
+    ensures { λ r. ⌜ r ≡ falls (fileNames (now (table .entry))) (beforeOf (memory (now (root .entry)) (now (pool .entry)) cluster) before) (nameAt (memory (now (root .entry)) (now (pool .entry)) cluster) place) ⌝ }
+{
+    match before {
+        Before::Nothing => false,
+        Before::Name(earlier) => {
+            let name = name_at(root, pool, cluster, place);
+            let other = name_at(root, pool, cluster, earlier);
+            match upcase_table::upcase_cmp_keys(table, name, other) {
+                Compared::Refused(_) => false,
+                Compared::Ordered(order) => match order {
+                    Ordering::Less => true,
+                    Ordering::Equal => false,
+                    Ordering::Greater => false,
+                },
+            }
+        }
+    }
+}
+
+// After a LAST_ENTRY the node is done; else 25, or the entry is the one listed last.
+fn close_entry<'a>(
+    root: &'a [u8],
+    pool: &'a [u8],
+    cluster: usize,
+    table: &[u16],
+    walk: Walk,
+    entry: Sound,
+) -> Closed
+    requires { ⌜ length (now table) ≡ tableUnits ⌝ }
+    ensures { λ r. ⌜ r ≡ closes (memory (now (root .entry)) (now (pool .entry)) cluster) (now (table .entry)) walk entry (entry .last) ⌝ }
+{
+    let count = walk.count;
+    let before = walk.before;
+    let place = entry.place;
+    if entry.last {
+        return Closed::Done(Outcome::Fine(walk));
+    }
+    if name_falls(root, pool, cluster, table, before, place) {
+        return Closed::Done(Outcome::Fault {
+            refusal: Refusal::NameFalls,
+            count,
+        });
+    }
+    Closed::Onward(Walk {
+        count,
+        before: Before::Name(place),
+    })
 }

@@ -88,7 +88,7 @@ module _ (bytes : List ℕ) (view : View) (at : ℕ) where
   ]
 
   -- the entry lies there in the bytes, so that its end is a number
-  pub read-within : (p : Place) → nextIn bytes view at ≡ Next.Entry p → (p .at ≡ at) × (at + p .size ≤ length bytes)
+  pub read-within : (p : Place) → nextIn bytes view at ≡ Next.Entry p → (p .at ≡ at) × (p .size ≡ length own) × (at + p .size ≤ length bytes)
   unfolding nextIn
   read-within pl h = elim (look (ltb at (view .used))) [
     | it false p ↦ clash (cc (rw p at h))
@@ -98,7 +98,7 @@ module _ (bytes : List ℕ) (view : View) (at : ℕ) where
       | it (present e) q ↦
           let same : Next.Entry (record { node = view .node; at = at; size = length e }) ≡ Next.Entry pl = rw (p, q) at h in
           let is : record { node = view .node; at = at; size = length e } ≡ pl = cc in
-          rw (← is) (refl, entered bytes at e q .within)
+          rw (← is, q) (refl, refl, entered bytes at e q .within)
     ]
   ]
 
