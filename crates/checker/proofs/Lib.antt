@@ -1,2 +1,4 @@
 pub mod Told
 pub mod Opening
+pub mod Counting
+pub mod Steps

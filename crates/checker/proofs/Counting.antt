@@ -1,0 +1,41 @@
+-- Marks set one by one: how many are set, and that those past the records stay.
+-- So the count of records reached is never more than the marks, and fits.
+use Prim.Native.Nat.{ℕ, zero, suc, _+_, _≤_, _<_}
+use mathlib.Core.Path.{_≡_, refl, ap}
+use mathlib.Core.Bool.{Bool, true, false}
+use mathlib.Core.List.{List, [], _∷_}
+use native.Mathlib.Omega.{arith}
+use lib.Dec.{eqb}
+use lib.ListN.{length, getD, set, drop}
+use Rattle.logic.proofs.Cases.{it, look}
+use Rattle.checker.specs.Check.{marked}
+use Rattle.checker.specs.Turn.{ones}
+
+pub ones-set : (m : List ℕ) (r : ℕ) → r < length m → marked m r ≡ false → ones (set m r 1) ≡ suc (ones m)
+unfolding ones
+ones-set [] r h q = absurd (omega arith)
+ones-set (b ∷ bs) zero h q = rw q
+ones-set (b ∷ bs) (suc r) h q = elim (look (eqb b 1)) [
+  | it true p ↦ rw p (ap suc (ones-set bs r (omega arith) q))
+  | it false p ↦ rw p (ones-set bs r (omega arith) q)
+]
+
+pub ones-few : (m : List ℕ) → ones m ≤ length m
+unfolding ones
+ones-few [] = omega arith
+ones-few (b ∷ bs) = let h = ones-few bs in elim (look (eqb b 1)) [ it true p ↦ rw p (omega arith) | it false p ↦ rw p (omega arith) ]
+
+pub ones-room : (m : List ℕ) (r : ℕ) → r < length m → marked m r ≡ false → ones m < length m
+unfolding ones
+ones-room [] r h q = absurd (omega arith)
+ones-room (b ∷ bs) zero h q = let k = ones-few bs in rw q (omega arith)
+ones-room (b ∷ bs) (suc r) h q = let k = ones-room bs r (omega arith) q in elim (look (eqb b 1)) [
+  | it true p ↦ rw p (omega arith)
+  | it false p ↦ rw p (omega arith)
+]
+
+pub drop-set : (n : ℕ) (m : List ℕ) (r x : ℕ) → r < n → drop n (set m r x) ≡ drop n m
+drop-set zero m r x h = absurd (omega arith)
+drop-set (suc n) [] r x h = refl
+drop-set (suc n) (b ∷ bs) zero x h = refl
+drop-set (suc n) (b ∷ bs) (suc r) x h = drop-set n bs r x (omega arith)
