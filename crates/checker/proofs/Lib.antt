@@ -1,3 +1,4 @@
 pub mod Check
 pub mod Marks
+pub mod Pass
 pub mod Tree
