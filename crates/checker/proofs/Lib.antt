@@ -1,4 +1,5 @@
 pub mod Check
+pub mod Demand
 pub mod Marks
 pub mod Pass
 pub mod Tree

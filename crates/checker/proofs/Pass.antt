@@ -5,7 +5,7 @@ use Prim.Native.Nat.{ℕ, suc, _+_, _≤_, _<_}
 use mathlib.Core.List.{List, [], _∷_, _++_, List·Memᴰ, List·Memᴰ·head, List·Memᴰ·tail, List·Memᴰ·append-cases}
 use mathlib.Core.Bool.{false}
 use mathlib.Core.Option.{Option, some, none}
-use mathlib.Core.Logic.{inl, inr, _↔_}
+use mathlib.Core.Logic.{_⊎_, inl, inr, _↔_}
 use native.Mathlib.Omega.{arith}
 use borrow.Author.Tests.{lt-leb}
 use lib.IntN.{ℤ}
@@ -18,6 +18,7 @@ use Rattle.index.specs.Entries.{Entry, Entries}
 use Rattle.index.specs.Walk.{Dir, never, allow}
 use Rattle.index.specs.Listing.{list}
 use Rattle.index_finder.specs.declared.Finding.{Finding}
+use Rattle.index_finder.specs.declared.Finding.the-variants.{NotFound}
 use Rattle.index_finder.specs.Kind.{Kind, keyRead}
 use Rattle.index_finder.specs.Find.{find}
 use Rattle.index_finder.specs.Sorted.{NeverFall, Equals, None}
@@ -172,10 +173,22 @@ module _ (d : Dir) {K : Type 0} (kind : Kind K) where
     λ h. absurd (n (h .equals .0) (keys-mem es (h .entry) (h .equals .0) (h .member) (h .equals .1)) (h .equals .2)),
   )
 
+  settles : (x : K) (es : List Entry) (ks : List K) (f : Finding) → Searched kind x es ks f → Finds kind x es f ⊎ ((o : ℕ) × (f ≡ NotFound o))
+  settles x es ks f (hit e c q i eq) = inl (record { holds = record { entry = e; member = i; equals = eq }; count = c; is = q })
+  settles x es ks f (miss c q n) = inr (c, q)
+
   module _ (L : Total (kind .compare)) (x : K) where
+    searched : {l : ℕ} {n : Entries} (t : Tree d kind l n) (a : ℕ) → l ≤ suc a → NeverFall kind none (listedKeys d kind l n)
+        → Searched kind x (items d kind t) (keys d kind t) (find kind x d (allow a) l n 0)
+    searched t a b r = search d kind x (allow a) a (λ o c. lt-leb a o c) L t none 0 (omega arith) (rw (tree-keys d kind t) at r)
+
     pub found-iff-listed : (l a : ℕ) (n : Entries) → l ≤ suc a → Fit d kind l n
         → Finds kind x (yielded (list d never l n 0)) (find kind x d (allow a) l n 0) ↔ Holds kind x (yielded (list d never l n 0))
     found-iff-listed l a n b F =
         let t = tree-of F .0 in
-        let s = search d kind x (allow a) a (λ o c. lt-leb a o c) L t none 0 (omega arith) (rw (tree-keys d kind t) at (F .rising)) in
-        rw (tree-items d kind t) (answers x (items d kind t) _ (rw (keys-items d kind t) s))
+        rw (tree-items d kind t) (answers x (items d kind t) _ (rw (keys-items d kind t) (searched t a b (F .rising))))
+
+    -- nothing is found that is not listed, and no lookup refuses
+    pub found-or-not : (l a : ℕ) (n : Entries) → l ≤ suc a → Fit d kind l n
+        → Finds kind x (yielded (list d never l n 0)) (find kind x d (allow a) l n 0) ⊎ ((o : ℕ) × (find kind x d (allow a) l n 0 ≡ NotFound o))
+    found-or-not l a n b F = let t = tree-of F .0 in rw (tree-items d kind t) (settles x (items d kind t) _ _ (searched t a b (F .rising)))
