@@ -9,14 +9,27 @@ use Rattle.index_node.specs.declared.Viewed.{Viewed}
 use Rattle.index_node.specs.declared.Viewed.the-variants as Viewed
 use Rattle.index_node.specs.Memory.{Memory}
 use Rattle.index_node.specs.Node.{viewOf}
-use Rattle.index.specs.Entries.{Entry, entriesAt}
-use Rattle.index.specs.Walk.{levels, dirOf}
+use Rattle.index.specs.Entries.{Entry, Entries, entriesAt}
+use Rattle.index.specs.Walk.{levels, Dir, dirOf}
 use Rattle.index_finder.specs.declared.Finding.{Finding}
 use Rattle.index_finder.specs.declared.Finding.the-variants.{Found}
 use Rattle.index_finder.specs.Kind.{Kind}
 use Rattle.index_finder.specs.Sorted.{Equals}
+use Rattle.index_finder.specs.Tree.{Leads}
 use Rattle.checker.specs.Check.{recordsOf}
-use Rattle.checker.specs.Fit.{reached, Fit}
+use Rattle.checker.specs.Fit.{Has, Down, reached, Fit}
+
+-- a path leads to record r within so many levels: some node reached has an entry whose subnode it is
+pub record Reaches (d : Dir) (levels : ℕ) (n : Entries) (r : ℕ) : Type 0 where
+  pub steps : ℕ
+  pub few : steps < levels
+  pub from : Entries
+  pub entry : Entry
+  pub start : ℕ
+  pub to : Entries
+  pub path : Down d steps n from
+  pub has : Has from entry
+  pub leads : Leads d (entry .sub) r start to
 
 -- none of 1 to 7, no 21: the checker gets to its walk
 pub record Ready (m : Memory) (marks : List ℕ) : Type 0 where
