@@ -13,13 +13,13 @@ use Rattle.refusal.specs.Part.{Part, absent, refused, present}
 use Rattle.ordering.specs.declared.Ordering.{Ordering}
 use Rattle.ordering.specs.declared.Ordering.the-variants.{Less, Equal, Greater}
 use Rattle.index_allocation.specs.declared.Lies.the-variants as Lies
-use Rattle.index.specs.Entries.{Entry, Entries, over, broken, last, next}
-use Rattle.index.specs.Walk.{Dir, wrong, holds, Opened, declined, opened, opening}
+use Rattle.index.specs.Entries.{Entries, over, broken, last, next}
+use Rattle.index.specs.Walk.{Dir, wrong, holds, declined, opened, opening}
 use Rattle.index_finder.specs.Kind.{Kind, keyRead}
 use Rattle.index_finder.specs.Sorted.{After}
 use Rattle.index_finder.specs.Tree.{Opens, Leads, Tree, out, end, down, leaf, fork}
 use Rattle.index_finder.proofs.Search.{tall}
-use Rattle.checker.specs.Check.{State, Checked, fault, fine, onward, marked, enters, lists, falls, listed, checkOpened, checkSub, checkLast, checkKey, checkNext, checkIn, check}
+use Rattle.checker.specs.Check.{State, Checked, fault, fine, onward, marked, enters, lists, falls, listed, checkSub, checkLast, checkKey, checkNext, checkIn, check}
 use Rattle.checker.proofs.Tree.{Closed}
 
 faulty : {K : Type 0} {r : Refusal} {c : ℕ} {s : State K} → fault r c ≡ fine s → ⊥
