@@ -30,7 +30,7 @@ use Rattle.checker.specs.Fit.{NoRepeat, yielded, keysOf, reached, listed
 use Rattle.checker.specs.Demand.{Holds, Finds}
 use Rattle.checker.proofs.Tree.{Closed, Closing, records, tree, tree-at-most, tree-well, tree-reached, tree-items, keys-items, tree-keys}
 use Rattle.checker.proofs.Marks.{mark, mark-append, Fresh, fresh-split, fresh-join, Below, once-fresh, fresh-once}
-use Rattle.checker.proofs.Check.{after, Passes, complete, sound}
+use Rattle.checker.proofs.Soundness.{after, Passes, complete, sound}
 
 last-append : {K : Type 0} (p : Option K) (a b : List K) → lastOf p (a ++ b) ≡ lastOf (lastOf p a) b
 unfolding lastOf

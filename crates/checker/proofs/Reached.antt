@@ -14,7 +14,7 @@ use Rattle.index_finder.specs.Tree.{Leads}
 use Rattle.checker.specs.Fit.{Has, at-last, at-next, later, Down, here, into, reachedSub, reachedIn, reached}
 use Rattle.checker.specs.Demand.{Reaches}
 use Rattle.checker.proofs.Tree.{reach-sub}
-use Rattle.checker.proofs.Check.{opening-inv}
+use Rattle.checker.proofs.Soundness.{opening-inv}
 
 module _ (d : Dir) where
   -- an entry of the node, the record that it leads to, and what is below that
