@@ -1,4 +1,10 @@
-pub mod Told
-pub mod Opening
 pub mod Counting
+pub mod Demand
+pub mod Marks
+pub mod Opening
+pub mod Pass
+pub mod Reached
+pub mod Soundness
 pub mod Steps
+pub mod Told
+pub mod Tree

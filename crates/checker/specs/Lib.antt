@@ -1,3 +1,4 @@
 pub mod Check
 pub mod Fit
 pub mod Turn
+pub mod Demand

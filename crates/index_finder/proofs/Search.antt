@@ -23,12 +23,12 @@ use Rattle.index_finder.specs.Tree.{Opens, Leads, Tree, out, end, down, 
 use Rattle.index_finder.proofs.Sorted.{never-split, none-nil, none-cons, none-append, not-equal-greater, none-after, none-before}
 
 module _ (d : Dir) where
-  opens-suc : (l : ℕ) {r s : ℕ} {m : Entries} {vcn : ℤ} → Opens d vcn r s m → (q : Bool) → q ≡ false → opening d (suc l) q unseen vcn ≡ opened r s m
+  pub opens-suc : (l : ℕ) {r s : ℕ} {m : Entries} {vcn : ℤ} → Opens d vcn r s m → (q : Bool) → q ≡ false → opening d (suc l) q unseen vcn ≡ opened r s m
   unfolding opening
   opens-suc l h q e = rw (h .pool, opening) (rw (e, opening) (rw (h .lies, opening) (rw (h .has, opening))))
 
 module _ (d : Dir) {K : Type 0} (kind : Kind K) where
-  tall : {l : ℕ} {es : Entries} → Tree d kind l es → (k : ℕ) × (l ≡ suc k)
+  pub tall : {l : ℕ} {es : Entries} → Tree d kind l es → (k : ℕ) × (l ≡ suc k)
   tall (out {l = l}) = (l, refl)
   tall (end {l = l} h) = (l, refl)
   tall (down {l = l} h t) = (l, refl)
