@@ -6,10 +6,13 @@ use mathlib.Core.Bool.{Bool, true, false}
 use mathlib.Core.List.{List, [], _∷_}
 use native.Mathlib.Omega.{arith}
 use lib.Dec.{eqb}
+use lib.IntN.{ℤ}
 use lib.ListN.{length, getD, set, drop}
 use Rattle.logic.proofs.Cases.{it, look}
-use Rattle.checker.specs.Check.{marked}
-use Rattle.checker.specs.Turn.{ones}
+use Rattle.index_allocation.specs.declared.Lies.the-variants as Lies
+use Rattle.index_node.specs.Memory.{Memory, placed}
+use Rattle.checker.specs.Check.{marked, recordsOf}
+use Rattle.checker.specs.Turn.{ones, Inside}
 
 pub ones-set : (m : List ℕ) (r : ℕ) → r < length m → marked m r ≡ false → ones (set m r 1) ≡ suc (ones m)
 unfolding ones
@@ -39,3 +42,13 @@ drop-set zero m r x h = absurd (omega arith)
 drop-set (suc n) [] r x h = refl
 drop-set (suc n) (b ∷ bs) zero x h = refl
 drop-set (suc n) (b ∷ bs) (suc r) x h = drop-set n bs r x (omega arith)
+
+-- every record has its mark, however the marks are set
+pub inside-length : (m : Memory) (marks after : List ℕ) → Inside m marks → length after ≡ length marks → Inside m after
+unfolding Inside
+inside-length m marks after (a, c, b) h = (omega (arith, h, a), omega (arith, h, c), b)
+
+pub inside-mark : (m : Memory) (marks : List ℕ) (vcn : ℤ) (number : ℕ) → Inside m marks → placed m vcn ≡ Lies.Record number
+    → (number < recordsOf m) × (number < length marks) × (length marks ≤ 18446744073709551615)
+unfolding Inside
+inside-mark m marks vcn number (a, c, b) h = let n = b vcn number h in (n, omega (arith, n, a), c)
