@@ -22,14 +22,14 @@ use Rattle.index_root.specs.declared.Judged.{Judged}
 use Rattle.index_root.specs.declared.Judged.the-variants as Judged
 use Rattle.index_entry.specs.Entry.{keyOf, subnodeSays}
 use Rattle.index_node.specs.declared.Node.{Node}
-use Rattle.index_node.specs.declared.Node.the-variants.{Record}
+use Rattle.index_node.specs.declared.Node.the-variants.{Root, Record}
 use Rattle.index_node.specs.declared.View.{View}
 use Rattle.index_node.specs.declared.Viewed.the-variants as Viewed
 use Rattle.index_node.specs.Memory.{Memory, viewBytes, placeBytes}
 use Rattle.index_node.specs.Node.{viewOf}
 use Rattle.index_node.proofs.Laws as nodes
 use Rattle.index.specs.Entries.{Entry, Look, past, bad, met, lookIn, lookAt, Entries, last, next, endOf, rolled, roll, bound, entriesAt}
-use Rattle.index.specs.Walk.{dirOf, Opened, declined, opened, opening}
+use Rattle.index.specs.Walk.{levels, dirOf, Opened, declined, opened, opening}
 use Rattle.index.proofs.Chains.{sees, unroll}
 use Rattle.index_finder.specs.Kind.{Kind, keyRead, fileNames}
 use Rattle.checker.specs.declared.Before.the-variants as Before
@@ -40,9 +40,10 @@ use Rattle.checker.specs.declared.Sound.{Sound}
 use Rattle.checker.specs.declared.Judgement.{Judgement}
 use Rattle.checker.specs.declared.Judgement.the-variants as Judgement
 use Rattle.checker.specs.declared.Fresh.the-variants as Fresh
+use Rattle.checker.specs.declared.Checking.the-variants as Checking
 use Rattle.checker.specs.declared.Closed.{Closed}
 use Rattle.checker.specs.declared.Closed.the-variants as Closed
-use Rattle.checker.specs.Check.{State, Checked, fault, fine, onward, marked, enters, falls, listed, checkOpened, checkSub, checkLast, checkKey, checkNext, checkIn, check}
+use Rattle.checker.specs.Check.{State, Checked, fault, fine, onward, marked, enters, falls, listed, checkOpened, checkSub, checkLast, checkKey, checkNext, checkIn, check, result, walked}
 use Rattle.checker.specs.Turn.{named, beforeOf, keySound, withSub, soundOf, keyed, judgeLast, judgeNext, judgeMet, judgeOf, freshSays, nameAt, stateOf, checkedSays, countOf, walkOf, closes}
 use Rattle.checker.proofs.Told.{clash}
 use Rattle.checker.proofs.Opening.{Reaches, reaches, declines}
@@ -275,3 +276,18 @@ module _ {table : List ℕ} {m : Memory} {node : View} {left : ℕ} {whole : Che
 pub fork-view : (m : Memory) (left : ℕ) (seen : ℕ → Bool) (vcn : ℤ) (number : ℕ) (view : View) → Reaches m left seen vcn number view
     → viewOf m (view .node) ≡ Viewed.Fine view
 fork-view m left seen vcn number view r = ap (viewOf m) (nodes.opened m (Record vcn) view (r .of) .is-node) ∙ r .of
+
+-- the root's node, as the walk has it
+pub root-view : (m : Memory) (node : View) → viewOf m Root ≡ Viewed.Fine node → viewOf m (node .node) ≡ Viewed.Fine node
+root-view m node h = ap (viewOf m) (nodes.opened m Root node h .is-node) ∙ h
+
+-- the walk's outcome as the checker's answer and marks
+pub passes-as : (table : List ℕ) (m : Memory) (node : View) (clear after : List ℕ) (w : Walk) → viewOf m Root ≡ Viewed.Fine node
+    → checkedSays m (Outcome.Fine w) after ≡ check (fileNames table) (dirOf m) levels (entriesAt m (node .node) (node .start)) (stateOf m clear (walkOf 0 Before.Nothing))
+    → walked (fileNames table) m (node .start) clear ≡ result (Checking.Passed (w .count)) after
+passes-as table m node clear after w v h = rw (← nodes.opened m Root node v .is-node, ← h)
+
+pub faults-as : (table : List ℕ) (m : Memory) (node : View) (clear : List ℕ) (r : Refusal) (c : ℕ) → viewOf m Root ≡ Viewed.Fine node
+    → fault r c ≡ check (fileNames table) (dirOf m) levels (entriesAt m (node .node) (node .start)) (stateOf m clear (walkOf 0 Before.Nothing))
+    → walked (fileNames table) m (node .start) clear ≡ result (Checking.Refused r c) clear
+faults-as table m node clear r c v h = rw (← nodes.opened m Root node v .is-node, ← h)
