@@ -13,7 +13,7 @@ use Rattle.index_allocation.specs.declared.Lies.the-variants as Lies
 use Rattle.index_node.specs.Memory.{Memory, placed}
 use Rattle.checker.specs.Check.{marked, recordsOf, cleared}
 use Rattle.index.specs.Walk.{dirOf}
-use Rattle.checker.proofs.Demand.{inside}
+use Rattle.checker.proofs.Demand.{inside, clear-length}
 use Rattle.checker.specs.Turn.{ones, Inside}
 
 pub ones-set : (m : List ℕ) (r : ℕ) → r < length m → marked m r ≡ false → ones (set m r 1) ≡ suc (ones m)
@@ -67,11 +67,6 @@ drop-cleared zero m h = refl
 drop-cleared (suc n) [] h = absurd (omega arith)
 drop-cleared (suc n) (b ∷ bs) h = drop-cleared n bs (omega arith)
 
-pub cleared-length : (n : ℕ) (m : List ℕ) → n ≤ length m → length (cleared n m) ≡ length m
-cleared-length zero m h = refl
-cleared-length (suc n) [] h = absurd (omega arith)
-cleared-length (suc n) (b ∷ bs) h = ap suc (cleared-length n bs (omega arith))
-
 pub clear-again : (n : ℕ) (m after : List ℕ) → n ≤ length m → drop n after ≡ drop n (cleared n m) → cleared n after ≡ cleared n m
 clear-again n m after h e = ap (λ (t : List ℕ). replicate n 0 ++ t) (e ∙ drop-cleared n m h)
 
@@ -79,4 +74,4 @@ pub inside-cleared : (m : Memory) (records : ℕ) (marks : List ℕ) → records
     → length marks ≤ 18446744073709551615 → Inside m (cleared records marks)
 unfolding Inside dirOf
 inside-cleared m records marks e h k =
-    let n = cleared-length records marks h in (omega (arith, e, n, h), omega (arith, n, k), inside m)
+    let n = clear-length records marks h in (omega (arith, e, n, h), omega (arith, n, k), inside m)

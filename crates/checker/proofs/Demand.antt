@@ -66,7 +66,7 @@ module _ (n : ℕ) (marks : List ℕ) where
   clear : (i : ℕ) → i < n → getD (cleared n marks) i 0 ≡ 0
   clear i h = List·getD-append (replicate n 0) (drop n marks) 0 i (rw length-replicate h) ∙ getD-replicate n i 0 0 h
 
-  clear-length : n ≤ length marks → length (cleared n marks) ≡ length marks
+  pub clear-length : n ≤ length marks → length (cleared n marks) ≡ length marks
   clear-length h = simp (length-append, length-replicate, length-drop) (omega arith)
 
   clear-beyond : (i : ℕ) → n ≤ i → getD (cleared n marks) i 0 ≡ getD marks i 0

@@ -8,7 +8,7 @@ use borrow.Author.Tests.{eq-eqb, ne-eqb}
 use lib.Dec.{eqb}
 use lib.IntN.{ℤ}
 use lib.ListN.{length}
-use Rattle.logic.proofs.Cases.{it, look}
+use Rattle.logic.proofs.Cases.{it, look, clash}
 use Rattle.refusal.specs.declared.Refusal.{Refusal}
 use Rattle.refusal.specs.declared.Refusal.the-variants.{SubnodeWithoutPool, TooManyLevels, ReachedTwice}
 use Rattle.index_allocation.specs.declared.Lies.the-variants as Lies
@@ -23,7 +23,6 @@ use Rattle.index.specs.Walk.{dirOf, Opened, declined, opened, opening}
 use Rattle.checker.specs.declared.Fresh.{Fresh}
 use Rattle.checker.specs.declared.Fresh.the-variants as Fresh
 use Rattle.checker.specs.Turn.{freshNode, freshSays}
-use Rattle.checker.proofs.Told.{clash}
 
 module _ (m : Memory) (left : ℕ) (seen : ℕ → Bool) (vcn : ℤ) where
   abbrev pub opens : Opened

@@ -8,7 +8,7 @@ use mathlib.Core.Option.{Option, some, none}
 use native.Mathlib.Omega.{arith}
 use lib.IntN.{ℤ}
 use lib.ListN.{set}
-use Rattle.logic.proofs.Cases.{it, look}
+use Rattle.logic.proofs.Cases.{it, look, clash}
 use Rattle.refusal.specs.declared.Refusal.{Refusal}
 use Rattle.refusal.specs.declared.Refusal.the-variants.{KeyUnreadable, NameFalls}
 use Rattle.refusal.specs.Part.{Part, absent, refused, present, bytesOf}
@@ -45,7 +45,6 @@ use Rattle.checker.specs.declared.Closed.{Closed}
 use Rattle.checker.specs.declared.Closed.the-variants as Closed
 use Rattle.checker.specs.Check.{State, Checked, fault, fine, onward, marked, enters, falls, listed, checkOpened, checkSub, checkLast, checkKey, checkNext, checkIn, check, result, walked}
 use Rattle.checker.specs.Turn.{named, beforeOf, keySound, withSub, soundOf, keyed, judgeLast, judgeNext, judgeMet, judgeOf, freshSays, nameAt, stateOf, checkedSays, countOf, walkOf, closes}
-use Rattle.checker.proofs.Told.{clash}
 use Rattle.checker.proofs.Opening.{Reaches, reaches, declines}
 
 -- after an entry and its subnode, by the entry's name: done after a LAST_ENTRY, else 25 or the rest

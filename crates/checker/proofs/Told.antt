@@ -7,7 +7,7 @@ use mathlib.Core.List.{List}
 use native.Mathlib.Omega.{arith}
 use borrow.Author.Tests.{lt-ltb, le-ltb}
 use lib.Dec.{ltb}
-use Rattle.logic.proofs.Cases.{it, look}
+use Rattle.logic.proofs.Cases.{it, look, clash}
 use Rattle.refusal.specs.declared.Refusal.{Refusal}
 use Rattle.refusal.specs.declared.Refusal.the-variants.{NodeEnd, KeyMissing}
 use Rattle.refusal.specs.Part.{Part, absent, refused, present}
@@ -21,9 +21,6 @@ use Rattle.index.specs.Entries.{Entry, Look, met, endOf}
 use Rattle.checker.specs.declared.Judgement.{Judgement}
 use Rattle.checker.specs.declared.Judgement.the-variants as Judgement
 use Rattle.checker.specs.Turn.{keySound, withSub, soundOf, keyed, judgeMet, judgeOf}
-
-pub clash : {A : Type 0} → _≡_ {A = ℕ} 0 1 → A
-clash e = absurd (omega arith)
 
 pub key-missing : (k : Part (List ℕ)) → keySays k ≡ KeyPart.Absent → Judged.Refused KeyMissing ≡ keySound k
 key-missing absent h = refl

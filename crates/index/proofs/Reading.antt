@@ -9,7 +9,7 @@ use borrow.Author.Tests.{eq-eqb, ne-eqb, le-leb, lt-leb, leb-false}
 use lib.Dec.{ltb, leb, eqb}
 use lib.IntN.{ℤ}
 use lib.ListN.{length}
-use Rattle.logic.proofs.Cases.{it, look}
+use Rattle.logic.proofs.Cases.{it, look, clash}
 use Rattle.refusal.specs.declared.Refusal.{Refusal}
 use Rattle.refusal.specs.declared.Refusal.the-variants.{SubnodeWithoutPool, TooManyLevels, AllowanceSpent}
 use Rattle.refusal.specs.Part.{Part, absent, refused, present, bytesOf}
@@ -38,9 +38,6 @@ use Rattle.index.specs.Entries.{Entry, Look, past, bad, met, entryPart, 
 use Rattle.index.specs.Walk.{dirOf, Opened, declined, opened, opening, unseen, openedNode}
 use Rattle.index.specs.Step.{levelOf, yields, refuses, yieldDue, judgedEntry}
 use Rattle.index.specs.Turn.{metSays, readSays, standingSays}
-
-clash : {A : Type 0} → _≡_ {A = ℕ} 0 1 → A
-clash e = absurd (omega arith)
 
 module _ (bytes : List ℕ) (view : View) (at : ℕ) where
   pub look-over : nextIn bytes view at ≡ Next.Over → lookIn bytes view at ≡ past

@@ -8,7 +8,7 @@ use native.Mathlib.Omega.{arith}
 use borrow.Author.Tests.{leb-false}
 use lib.Dec.{leb}
 use lib.IntN.{ℤ}
-use Rattle.logic.proofs.Cases.{it, look}
+use Rattle.logic.proofs.Cases.{it, look, clash}
 use Rattle.refusal.specs.declared.Refusal.{Refusal}
 use Rattle.refusal.specs.Part.{Part, absent, refused, present}
 use Rattle.ordering.specs.declared.Ordering.{Ordering}
@@ -31,7 +31,6 @@ use Rattle.index_finder.specs.declared.Visit.{Visit}
 use Rattle.index_finder.specs.declared.Visit.the-variants as Visit
 use Rattle.index_finder.specs.Kind.{Kind, keyRead}
 use Rattle.index_finder.specs.Find.{findOpened, findOrdered, findSub, findKey, findIn, find, findRoot, finding}
-use Rattle.index_finder.proofs.Told.{clash}
 use Rattle.index_finder.specs.Visit.{againstOf, below, visitOrdered, visitKey, visitOf}
 
 module _ {K : Type 0} (kind : Kind K) (sought : K) (m : Memory) (spent : ℕ → Bool) where

@@ -3,9 +3,9 @@
 use Prim.Native.Nat.{ℕ}
 use mathlib.Core.Path.{_≡_, refl}
 use mathlib.Core.List.{List}
-use native.Mathlib.Omega.{arith}
 use borrow.Author.Tests.{eq-eqb}
 use lib.ListN.{length}
+use Rattle.logic.proofs.Cases.{clash}
 use Rattle.refusal.specs.declared.Refusal.{Refusal}
 use Rattle.refusal.specs.Part.{Part, absent, refused, present, bytesOf}
 use Rattle.ordering.specs.declared.Ordering.{Ordering}
@@ -16,9 +16,6 @@ use Rattle.index_entry.specs.Entry.{keySays}
 use Rattle.index_finder.specs.declared.Against.the-variants as Against
 use Rattle.index_finder.specs.Kind.{Kind, keyRead}
 use Rattle.index_finder.specs.Visit.{againstOf}
-
-pub clash : {A : Type 0} → _≡_ {A = ℕ} 0 1 → A
-clash e = absurd (omega arith)
 
 module _ {K : Type 0} (kind : Kind K) (sought : K) where
   pub key-absent : (k : Part (List ℕ)) → keySays k ≡ KeyPart.Absent → Against.NoKey ≡ againstOf kind sought (keyRead kind k)

@@ -6,7 +6,8 @@ use denote.Ref.{now}
 use native.Mathlib.Omega.{arith}
 use lib.ListN.{length, length-set}
 use Rattle.checker.specs.Check.{cleared}
-use Rattle.checker.proofs.Counting.{clear-one, cleared-length}
+use Rattle.checker.proofs.Counting.{clear-one}
+use Rattle.checker.proofs.Demand.{clear-length}
 use Rattle.checker.proofs.clear.Statement.{statement}
 use Rattle.checker.proofs.clear.Tie as tie
 
@@ -20,7 +21,7 @@ loop-holds : tie.Need-loop-holds Inv-loop μ-loop
 loop-holds c = (omega arith, refl)
 
 slice-write-marks : tie.Need-slice-write-marks Inv-loop μ-loop
-slice-write-marks c = omega (arith, c .before .before .pre, ap length (c .before .loop .inv .1), cleared-length (c .before .loop .i) (now (c .before .before .args .marks)) (omega (arith, c .before .before .pre, c .before .loop .inv .0)))
+slice-write-marks c = omega (arith, c .before .before .pre, ap length (c .before .loop .inv .1), clear-length (c .before .loop .i) (now (c .before .before .args .marks)) (omega (arith, c .before .before .pre, c .before .loop .inv .0)))
 
 add-i : tie.Need-add-i Inv-loop μ-loop
 add-i c = omega (arith, c .before .before .fits .records)
@@ -34,7 +35,7 @@ loop-again c =
     (omega arith, rw (c .before .loop .inv .1, one) (clear-one (c .before .loop .i) (now (c .before .before .args .marks)) (omega (arith, c .before .before .pre))))
 
 same-length : tie.Need-same-length Inv-loop μ-loop
-same-length c = ap length (c .before .loop .inv .1) ∙ cleared-length (c .before .loop .i) (now (c .before .before .args .marks)) (omega (arith, c .before .before .pre, c .before .loop .inv .0))
+same-length c = ap length (c .before .loop .inv .1) ∙ clear-length (c .before .loop .i) (now (c .before .before .args .marks)) (omega (arith, c .before .before .pre, c .before .loop .inv .0))
 
 returns : tie.Need-returns Inv-loop μ-loop
 returns c =
