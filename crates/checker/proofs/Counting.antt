@@ -1,15 +1,20 @@
 -- Marks set one by one: how many are set, and that those past the records stay.
 -- So the count of records reached is never more than the marks, and fits.
-use Prim.Native.Nat.{ℕ, zero, suc, _+_, _≤_, _<_}
-use mathlib.Core.Path.{_≡_, refl, ap}
+use Prim.Native.Nat.{ℕ, zero, suc, _≤_, _<_}
+use mathlib.Core.Path.{_≡_, refl, ap, _∙_}
 use mathlib.Core.Bool.{Bool, true, false}
-use mathlib.Core.List.{List, [], _∷_}
+use mathlib.Core.List.{List, [], _∷_, _++_}
 use native.Mathlib.Omega.{arith}
 use lib.Dec.{eqb}
-use lib.ListN.{length, getD, set, drop}
+use lib.IntN.{ℤ}
+use lib.ListN.{length, getD, set, drop, replicate}
 use Rattle.logic.proofs.Cases.{it, look}
-use Rattle.checker.specs.Check.{marked}
-use Rattle.checker.specs.Turn.{ones}
+use Rattle.index_allocation.specs.declared.Lies.the-variants as Lies
+use Rattle.index_node.specs.Memory.{Memory, placed}
+use Rattle.checker.specs.Check.{marked, recordsOf, cleared}
+use Rattle.index.specs.Walk.{dirOf}
+use Rattle.checker.proofs.Demand.{inside}
+use Rattle.checker.specs.Turn.{ones, Inside}
 
 pub ones-set : (m : List ℕ) (r : ℕ) → r < length m → marked m r ≡ false → ones (set m r 1) ≡ suc (ones m)
 unfolding ones
@@ -39,3 +44,39 @@ drop-set zero m r x h = absurd (omega arith)
 drop-set (suc n) [] r x h = refl
 drop-set (suc n) (b ∷ bs) zero x h = refl
 drop-set (suc n) (b ∷ bs) (suc r) x h = drop-set n bs r x (omega arith)
+
+-- every record has its mark, however the marks are set
+pub inside-length : (m : Memory) (marks after : List ℕ) → Inside m marks → length after ≡ length marks → Inside m after
+unfolding Inside
+inside-length m marks after (a, c, b) h = (omega (arith, h, a), omega (arith, h, c), b)
+
+pub inside-mark : (m : Memory) (marks : List ℕ) (vcn : ℤ) (number : ℕ) → Inside m marks → placed m vcn ≡ Lies.Record number
+    → (number < recordsOf m) × (number < length marks) × (length marks ≤ 18446744073709551615)
+unfolding Inside
+inside-mark m marks vcn number (a, c, b) h = let n = b vcn number h in (n, omega (arith, n, a), c)
+
+-- cleared one after another
+pub clear-one : (i : ℕ) (m : List ℕ) → i < length m → set (cleared i m) i 0 ≡ cleared (suc i) m
+clear-one zero [] h = absurd (omega arith)
+clear-one zero (b ∷ bs) h = refl
+clear-one (suc i) [] h = absurd (omega arith)
+clear-one (suc i) (b ∷ bs) h = ap (λ (t : List ℕ). 0 ∷ t) (clear-one i bs (omega arith))
+
+pub drop-cleared : (n : ℕ) (m : List ℕ) → n ≤ length m → drop n (cleared n m) ≡ drop n m
+drop-cleared zero m h = refl
+drop-cleared (suc n) [] h = absurd (omega arith)
+drop-cleared (suc n) (b ∷ bs) h = drop-cleared n bs (omega arith)
+
+pub cleared-length : (n : ℕ) (m : List ℕ) → n ≤ length m → length (cleared n m) ≡ length m
+cleared-length zero m h = refl
+cleared-length (suc n) [] h = absurd (omega arith)
+cleared-length (suc n) (b ∷ bs) h = ap suc (cleared-length n bs (omega arith))
+
+pub clear-again : (n : ℕ) (m after : List ℕ) → n ≤ length m → drop n after ≡ drop n (cleared n m) → cleared n after ≡ cleared n m
+clear-again n m after h e = ap (λ (t : List ℕ). replicate n 0 ++ t) (e ∙ drop-cleared n m h)
+
+pub inside-cleared : (m : Memory) (records : ℕ) (marks : List ℕ) → records ≡ recordsOf m → records ≤ length marks
+    → length marks ≤ 18446744073709551615 → Inside m (cleared records marks)
+unfolding Inside dirOf
+inside-cleared m records marks e h k =
+    let n = cleared-length records marks h in (omega (arith, e, n, h), omega (arith, n, k), inside m)

@@ -55,7 +55,7 @@ sized (pos n) cluster size len r e = elim (look (eqb size 0)) [
 counted : (r size len : ℕ) → 0 < size → r * size + size ≤ len → r < cond (eqb len 0) 0 (len / size)
 counted r size len h l = rw (ne-eqb len 0 (λ e. omega arith)) (le-div-iff-mul-le h .1 (omega arith))
 
-inside : (m : Memory) (vcn : ℤ) (r : ℕ) → dirOf m .where? vcn ≡ Lies.Record r → r < recordsOf m
+pub inside : (m : Memory) (vcn : ℤ) (r : ℕ) → dirOf m .where? vcn ≡ Lies.Record r → r < recordsOf m
 unfolding dirOf recordsOf
 inside m vcn r e =
     let size = recordSizeOf (m .root) in

@@ -1,10 +1,12 @@
 -- The walk of the checker entry by entry: what the inner functions of the code answer.
-use Prim.Native.Nat.{ℕ, zero, suc, _+_}
+use Prim.Native.Nat.{ℕ, suc, _≤_, _<_}
+use mathlib.Core.Path.{_≡_}
 use mathlib.Core.Bool.{Bool, true, false, cond}
 use mathlib.Core.List.{List, [], _∷_}
 use mathlib.Core.Option.{Option, some, none}
 use lib.Dec.{eqb}
 use lib.IntN.{ℤ}
+use lib.ListN.{length}
 use Rattle.refusal.specs.declared.Refusal.{Refusal}
 use Rattle.refusal.specs.declared.Refusal.the-variants.{EntrySize, KeyUnreadable, NodeEnd, KeyMissing, NameFalls}
 use Rattle.refusal.specs.Part.{Part, absent, refused, present, bytesOf}
@@ -19,11 +21,12 @@ use Rattle.index_root.specs.declared.Judged.the-variants as Judged
 use Rattle.index_entry.specs.declared.Subnode.{Subnode}
 use Rattle.index_entry.specs.declared.Subnode.the-variants as Subnode
 use Rattle.index_entry.specs.Entry.{keyOf, subnodeSays}
+use Rattle.index_allocation.specs.declared.Lies.the-variants as Lies
 use Rattle.index_node.specs.declared.Node.the-variants.{Record}
 use Rattle.index_node.specs.declared.Place.{Place}
 use Rattle.index_node.specs.declared.Viewed.{Viewed}
 use Rattle.index_node.specs.declared.Viewed.the-variants as Viewed
-use Rattle.index_node.specs.Memory.{Memory, placeBytes}
+use Rattle.index_node.specs.Memory.{Memory, placed, placeBytes}
 use Rattle.index_node.specs.Node.{viewOf}
 use Rattle.index.specs.Entries.{Entry, Look, past, bad, met, endOf}
 use Rattle.index.specs.Walk.{Opened, declined, opened}
@@ -40,7 +43,7 @@ use Rattle.checker.specs.declared.Fresh.{Fresh}
 use Rattle.checker.specs.declared.Fresh.the-variants as Fresh
 use Rattle.checker.specs.declared.Closed.{Closed}
 use Rattle.checker.specs.declared.Closed.the-variants as Closed
-use Rattle.checker.specs.Check.{State, Checked, fault, fine, falls}
+use Rattle.checker.specs.Check.{State, Checked, fault, fine, falls, recordsOf}
 
 -- no key: 24; key: 9, 18
 abbrev pub named : FileName → Judged
@@ -126,3 +129,7 @@ closes m table w e false =
 unfoldable pub ones : List ℕ → ℕ
 ones [] = 0
 ones (b ∷ bs) = cond (eqb b 1) (suc (ones bs)) (ones bs)
+
+-- every record that a VCN leads to has its mark, and a number counts the marks
+unfoldable pub Inside : Memory → List ℕ → Type 0
+Inside m marks = (recordsOf m ≤ length marks) × (length marks ≤ 18446744073709551615) × ((vcn : ℤ) (number : ℕ) → placed m vcn ≡ Lies.Record number → number < recordsOf m)

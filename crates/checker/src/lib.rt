@@ -1,6 +1,6 @@
 // The checker: what lets an installer trust a stick.
 ghost use mathlib.Core.Path.{_≡_};
-ghost use Prim.Native.Nat.{_≤_, _<_, _+_};
+ghost use Prim.Native.Nat.{suc, _≤_};
 ghost use mathlib.Core.Bool.{false};
 ghost use lib.ListN.{length, drop, set};
 ghost use Rattle.upcase_table.specs.Names.{tableUnits};
@@ -13,8 +13,8 @@ ghost use Rattle.index_node.specs.Node.{viewOf};
 ghost use Rattle.index.specs.Entries.{lookIn, entriesAt};
 ghost use Rattle.index.specs.Walk.{dirOf, opening};
 ghost use Rattle.index_finder.specs.Kind.{fileNames, keyRead};
-ghost use Rattle.checker.specs.Check.{marked, falls, check, recordsOf, cleared, checker};
-ghost use Rattle.checker.specs.Turn.{keySound, withSub, judgeOf, freshSays, nameAt, beforeOf, closes, stateOf, checkedSays, countOf, ones};
+ghost use Rattle.checker.specs.Check.{marked, falls, check, recordsOf, cleared, walked, checker};
+ghost use Rattle.checker.specs.Turn.{keySound, withSub, judgeOf, freshSays, nameAt, beforeOf, closes, stateOf, checkedSays, countOf, ones, Inside};
 use file_name::FileName;
 use index_allocation::Lies;
 use index_entry::KeyPart;
@@ -242,4 +242,167 @@ fn close_entry<'a>(
         count,
         before: Before::Name(place),
     })
+}
+
+// A node and what lies below it, entry by entry; it calls itself for a subnode with one level fewer.
+fn check_node<'a>(
+    root: &'a [u8],
+    pool: &'a [u8],
+    cluster: usize,
+    table: &[u16],
+    marks: &mut [u8],
+    node: View,
+    left: usize,
+    walk: Walk,
+) -> Outcome
+    requires { ⌜ (length (now table) ≡ tableUnits) × (viewOf (memory (now root) (now pool) cluster) (node .node) ≡ Viewed.Fine node) × Inside (memory (now root) (now pool) cluster) (now marks) × (walk .count ≤ ones (now marks)) ⌝ }
+    ensures { λ r. ⌜ checkedSays (memory (now (root .entry)) (now (pool .entry)) cluster) r (now (marks .exit)) ≡ check (fileNames (now (table .entry))) (dirOf (memory (now (root .entry)) (now (pool .entry)) cluster)) (suc left) (entriesAt (memory (now (root .entry)) (now (pool .entry)) cluster) (node .node) (node .start)) (stateOf (memory (now (root .entry)) (now (pool .entry)) cluster) (now (marks .entry)) walk) ⌝ }
+    ensures { λ r. ⌜ drop (recordsOf (memory (now (root .entry)) (now (pool .entry)) cluster)) (now (marks .exit)) ≡ drop (recordsOf (memory (now (root .entry)) (now (pool .entry)) cluster)) (now (marks .entry)) ⌝ }
+    ensures { λ r. ⌜ countOf r ≤ ones (now (marks .exit)) ⌝ }
+{
+    let bytes = index_node::node_bytes(root, pool, node);
+    let mut at = node.start;
+    let mut w = walk;
+    loop {
+        let count = w.count;
+        let before = w.before;
+        match judge_entry(bytes, node, at) {
+            Judgement::Fault(refusal) => return Outcome::Fault { refusal, count },
+            Judgement::Leaf(entry) => {
+                let next = entry.next;
+                match close_entry(root, pool, cluster, table, w, entry) {
+                    Closed::Done(outcome) => return outcome,
+                    Closed::Onward(x) => {
+                        w = x;
+                        at = next;
+                    }
+                }
+            }
+            Judgement::Fork { entry, vcn } => {
+                let next = entry.next;
+                match open_fresh(root, pool, cluster, marks, left, vcn) {
+                    Fresh::Refused(refusal) => return Outcome::Fault { refusal, count },
+                    Fresh::Record { number, view } => {
+                        marks[number] = 1;
+                        let below = Walk {
+                            count: count + 1,
+                            before,
+                        };
+                        match check_node(root, pool, cluster, table, marks, view, left - 1, below) {
+                            Outcome::Fault { refusal, count } => {
+                                return Outcome::Fault { refusal, count };
+                            }
+                            Outcome::Fine(after) => {
+                                match close_entry(root, pool, cluster, table, after, entry) {
+                                    Closed::Done(outcome) => return outcome,
+                                    Closed::Onward(x) => {
+                                        w = x;
+                                        at = next;
+                                    }
+                                }
+                            }
+                        }
+                    }
+                }
+            }
+        }
+    }
+}
+
+// How many records the pool has.
+fn record_count<'a>(root: &'a [u8], pool: &'a [u8], cluster: usize) -> usize
+    ensures { λ r. ⌜ r ≡ recordsOf (memory (now (root .entry)) (now (pool .entry)) cluster) ⌝ }
+{
+    let size = index_root::index_record_size(root);
+    if pool.len() == 0 {
+        return 0;
+    }
+    if size == 0 {
+        return 0;
+    }
+    pool.len() / size
+}
+
+// 0 for every record; bytes past them never change.
+fn clear(marks: &mut [u8], records: usize)
+    requires { ⌜ records ≤ length (now marks) ⌝ }
+    ensures { λ _. ⌜ now (marks .exit) ≡ cleared records (now (marks .entry)) ⌝ }
+{
+    let mut i = 0;
+    while i < records {
+        marks[i] = 0;
+        i += 1;
+    }
+}
+
+// The walk over cleared marks; after a fault they are cleared again.
+fn check_walk<'a>(
+    root: &'a [u8],
+    pool: &'a [u8],
+    cluster: usize,
+    table: &[u16],
+    marks: &mut [u8],
+    node: View,
+    records: usize,
+) -> Checking
+    requires { ⌜ (length (now table) ≡ tableUnits) × (viewOf (memory (now root) (now pool) cluster) Node.Root ≡ Viewed.Fine node) × (records ≡ recordsOf (memory (now root) (now pool) cluster)) × (records ≤ length (now marks)) × (length (now marks) ≤ 18446744073709551615) ⌝ }
+    ensures { λ r. ⌜ r ≡ walked (fileNames (now (table .entry))) (memory (now (root .entry)) (now (pool .entry)) cluster) (node .start) (cleared records (now (marks .entry))) .answer ⌝ }
+    ensures { λ r. ⌜ now (marks .exit) ≡ walked (fileNames (now (table .entry))) (memory (now (root .entry)) (now (pool .entry)) cluster) (node .start) (cleared records (now (marks .entry))) .marks ⌝ }
+{
+    clear(marks, records);
+    let walk = Walk {
+        count: 0,
+        before: Before::Nothing,
+    };
+    match check_node(
+        root,
+        pool,
+        cluster,
+        table,
+        marks,
+        node,
+        LEVELS_BELOW_ROOT,
+        walk,
+    ) {
+        Outcome::Fine(after) => Checking::Passed(after.count),
+        Outcome::Fault { refusal, count } => {
+            clear(marks, records);
+            Checking::Refused {
+                refusal,
+                opened: count,
+            }
+        }
+    }
+}
+
+// Checks a directory of file names: 19, 1 to 7, 21, then its walk.
+pub fn check<'a>(
+    root: &'a [u8],
+    pool: &'a [u8],
+    cluster: usize,
+    table: &[u16],
+    marks: &mut [u8],
+) -> Checking
+    ensures { λ r. ⌜ r ≡ checker (now (table .entry)) (memory (now (root .entry)) (now (pool .entry)) cluster) (now (marks .entry)) .answer ⌝ }
+    ensures { λ r. ⌜ now (marks .exit) ≡ checker (now (table .entry)) (memory (now (root .entry)) (now (pool .entry)) cluster) (now (marks .entry)) .marks ⌝ }
+{
+    if table.len() != UPCASE_CHARACTER_COUNT {
+        return Checking::Refused {
+            refusal: Refusal::TableLength,
+            opened: 0,
+        };
+    }
+    match index_node::open_node(root, pool, cluster, Node::Root) {
+        Viewed::Refused(refusal) => Checking::Refused { refusal, opened: 0 },
+        Viewed::Fine(node) => {
+            let records = record_count(root, pool, cluster);
+            if marks.len() < records {
+                return Checking::Refused {
+                    refusal: Refusal::MarksTooShort,
+                    opened: 0,
+                };
+            }
+            check_walk(root, pool, cluster, table, marks, node, records)
+        }
+    }
 }
