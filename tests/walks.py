@@ -265,10 +265,10 @@ def lookup(rules, table, name):
 
 
 class Check:
-    """The checker's walk by 01's rules: the records reached, and the name listed last."""
+    """The checker's walk by 01's rules: the records reached and the names listed, so far."""
 
     def __init__(self, directory, table):
-        self.directory, self.table, self.reached, self.before = directory, table, [], None
+        self.directory, self.table, self.reached, self.names = directory, table, [], []
 
     def node(self, node, level):
         at = node.start
@@ -284,9 +284,9 @@ class Check:
                 self.subnode(vcn, level)
             if last:
                 return
-            if self.before is not None and order(self.table, units, self.before) < 0:
+            if self.names and order(self.table, units, self.names[-1]) < 0:
                 raise Refused(25)
-            self.before = units
+            self.names.append(units)
         raise Refused(23)
 
     def units(self, entry):
