@@ -111,9 +111,10 @@ void ntfs_find(
     const uint16_t *name, size_t name_length,
     uint64_t allowance, uint64_t answer[NTFS_ANSWER_WORDS]);
 
-/* Checks a whole directory: a pass, or its first fault as a refusal. After a pass each name listed is found by ntfs_find under the same
-   table with an allowance of 7, and no other name. Writes the 3 numbers of the answer: what, the refusal's number or 0, the count of
-   records reached (of a refusal, of those that were in order before the fault). Writes the marks.
+/* Checks a whole directory: a pass, or its first fault as a refusal. After a pass ntfs_find, under the same table and with an allowance
+   of 7 or more, finds a name of at most 255 units exactly if an entry with an equal name is listed. Writes the 3 numbers of the answer:
+   what, the refusal's number or 0, the count of records reached (of a refusal, of those that were in order before the fault). Writes the
+   marks.
 
    table: as for ntfs_find. marks: one byte a record, at least as many as the pool has records, so that a host can see which records no
    path reaches. After a pass a mark is 1 where its record was reached and 0 where not. On the refusals 19, 1 to 7 and 21 (marks too
