@@ -5,8 +5,8 @@
 
    What is lent. A slice is two arguments, a pointer to its first element and its length in elements. A pointer may not be NULL, not
    even where the length is 0: lend any address then. It must be aligned as its type asks. Root, pool, table and name are only read.
-   They may overlap each other, but not an array that is written; the two arrays of ntfs_step may not overlap either. Nothing else may
-   write to what is lent until the call returns. No pointer is kept after that.
+   They may overlap each other, but not an array that is written; the two arrays that ntfs_step or ntfs_check writes may not overlap
+   either. Nothing else may write to what is lent until the call returns. No pointer is kept after that.
 
    Whatever the bytes and the numbers, every call ends, reads nothing outside what was lent, and writes only the arrays named for it.
    Nothing is allocated, there is no global state, and calls may run at the same time as long as they write different arrays.
@@ -25,12 +25,13 @@ extern "C" {
 
 enum {
     NTFS_CURSOR_WORDS = 43,
-    NTFS_ANSWER_WORDS = 6
+    NTFS_ANSWER_WORDS = 6,
+    NTFS_CHECK_WORDS = 3
 };
 
-/* Which number of an answer is what. All that is not said to hold something is 0. */
+/* Which number of an answer is what; that of a check has the first three. All that is not said to hold something is 0. */
 enum {
-    NTFS_WHAT = 0,    /* one of NTFS_NONE, NTFS_ENTRY, NTFS_REFUSED */
+    NTFS_WHAT = 0,    /* one of NTFS_NONE, NTFS_ENTRY, NTFS_REFUSED; of a check NTFS_PASSED or NTFS_REFUSED */
     NTFS_REFUSAL = 1, /* of a refusal: its number */
     NTFS_OPENED = 2,  /* how many records have been opened so far */
     NTFS_HOLDER = 3,  /* of an entry: NTFS_ROOT or NTFS_POOL, the slice that holds it */
@@ -39,8 +40,9 @@ enum {
 };
 
 enum {
-    NTFS_NONE = 0,  /* a listing: the end; a lookup: not found */
-    NTFS_ENTRY = 1, /* a listing: the next entry; a lookup: the entry found */
+    NTFS_NONE = 0,   /* a listing: the end; a lookup: not found */
+    NTFS_ENTRY = 1,  /* a listing: the next entry; a lookup: the entry found */
+    NTFS_PASSED = 1, /* a check: no fault */
     NTFS_REFUSED = 2
 };
 
@@ -108,6 +110,23 @@ void ntfs_find(
     const uint16_t *table, size_t table_length,
     const uint16_t *name, size_t name_length,
     uint64_t allowance, uint64_t answer[NTFS_ANSWER_WORDS]);
+
+/* Checks a whole directory: a pass, or its first fault as a refusal. After a pass ntfs_find, under the same table and with an allowance
+   of 7 or more, finds a name of at most 255 units exactly if an entry with an equal name is listed. Writes the 3 numbers of the answer:
+   what, the refusal's number or 0, the count of records reached (of a refusal, of those that were in order before the fault). Writes the
+   marks.
+
+   table: as for ntfs_find. marks: one byte a record, at least as many as the pool has records, so that a host can see which records no
+   path reaches. After a pass a mark is 1 where its record was reached and 0 where not. On the refusals 19, 1 to 7 and 21 (marks too
+   short) no mark changes; on any other the mark of every record is 0. Bytes past the number of records never change. What the marks were
+   before does not matter. */
+void ntfs_check(
+    const uint8_t *root, size_t root_length,
+    const uint8_t *pool, size_t pool_length,
+    size_t cluster,
+    const uint16_t *table, size_t table_length,
+    uint8_t *marks, size_t marks_length,
+    uint64_t answer[NTFS_CHECK_WORDS]);
 
 #ifdef __cplusplus
 }

@@ -2,6 +2,7 @@
 
      list ID CLUSTER ROOT POOL              every step of a listing, until its end or its first refusal
      find ID CLUSTER ROOT POOL NAME TABLE   one lookup
+     check ID CLUSTER ROOT POOL MARKS TABLE the checker; MARKS are the bytes of the marks before
      table NAME UNITS                       a table; four hex digits a unit
      table NAME map BASE 0061=0041,...      the table BASE with some units changed; T and I are built in
 
@@ -10,6 +11,7 @@
      root:OFFSET:LENGTH:OPENED  pool:OFFSET:LENGTH:OPENED   an entry, with the count of records opened
      end:OPENED  missing:OPENED  refused:NUMBER:OPENED  cut:OPENED   (cut: as many entries as --yields says)
      found:root:OFFSET:LENGTH:OPENED  found:pool:...
+     passed:COUNT:MARKS  refused:NUMBER:COUNT:MARKS   of a check, with the bytes of the marks afterwards
 
    usage: answers [--yields N] [--allowance N] [FILE] */
 #define _POSIX_C_SOURCE 200809L
@@ -184,25 +186,54 @@ static void find(size_t cluster, Bytes root, Bytes pool, const Table *t, const u
     }
 }
 
-/* What both kinds of case have: cluster, root, pool. 0 where they cannot be read. */
+static void print_bytes(Bytes b) {
+    if (!b.size) putchar('-');
+    for (size_t i = 0; i < b.size; i++) printf("%02x", b.bytes[i]);
+}
+
+static void check(size_t cluster, Bytes root, Bytes pool, const Table *t, Bytes marks) {
+    uint64_t answer[NTFS_CHECK_WORDS];
+    memset(answer, 0xFF, sizeof answer);
+    ntfs_check(root.bytes, root.size, pool.bytes, pool.size, cluster, t->units, t->count, marks.bytes, marks.size, answer);
+    if (answer[NTFS_WHAT] == NTFS_PASSED && answer[NTFS_REFUSAL] == 0) print_number(" passed:", answer[NTFS_OPENED]);
+    else print_ending("odd", answer);
+    putchar(':');
+    print_bytes(marks);
+}
+
+/* A check's or a lookup's last two fields. 0 where they cannot be read. */
+static int ask(char **field, size_t cluster, Bytes root, Bytes pool) {
+    Table *t = table_named(field[6]);
+    if (!strcmp(field[0], "check")) {
+        Bytes marks;
+        int fine = unhex(field[5], &marks) && t;
+        if (fine) check(cluster, root, pool, t, marks);
+        free(marks.bytes);
+        return fine;
+    }
+    uint16_t *name;
+    size_t count;
+    if (!t || !units_of(field[5], &name, &count)) return 0;
+    find(cluster, root, pool, t, name, count);
+    free(name);
+    return 1;
+}
+
+/* What every kind of case has: cluster, root, pool. 0 where they cannot be read. */
 static int run_case(char **field, int n) {
-    int finding = !strcmp(field[0], "find");
-    if (n != (finding ? 7 : 5)) return 0;
+    int listing = !strcmp(field[0], "list");
+    if (n != (listing ? 5 : 7)) return 0;
     char *end;
     size_t cluster = strtoull(field[2], &end, 10);
     static Bytes root, pool;
     if (!hold(field[3], &root) || !hold(field[4], &pool) || *end) return 0;
-    if (finding) {
-        uint16_t *name;
-        size_t count;
-        Table *t = table_named(field[6]);
-        if (!t || !units_of(field[5], &name, &count)) return 0;
-        find(cluster, root, pool, t, name, count);
-        free(name);
-    } else {
-        list(cluster, root, pool);
-    }
+    if (!listing) return ask(field, cluster, root, pool);
+    list(cluster, root, pool);
     return 1;
+}
+
+static int is_case(const char *word) {
+    return !strcmp(word, "list") || !strcmp(word, "find") || !strcmp(word, "check");
 }
 
 static int split(char *line, char **field, int most) {
@@ -220,7 +251,7 @@ static void answer_line(char *line) {
         return;
     }
     printf("%s", n > 1 ? field[1] : "?");
-    if (n < 2 || (strcmp(field[0], "list") && strcmp(field[0], "find")) || !run_case(field, n)) printf(" bad line");
+    if (n < 2 || !is_case(field[0]) || !run_case(field, n)) printf(" bad line");
     putchar('\n');
 }
 

@@ -1,4 +1,4 @@
-/* Lists a small directory from C, looks names up in it, and sees to every number: rt staticlib c_api, then
+/* Lists a small directory from C, looks names up in it, checks it, and sees to every number: rt staticlib c_api, then
    cc -std=c99 -Wall -Wextra -pedantic -Iinclude tests/c_api.c target/staticlib/libc_api.a -o target/c_api && target/c_api */
 #include "ntfs_index.h"
 #include <stdio.h>
@@ -80,6 +80,37 @@ static void expect_find(const char *what, uint16_t unit, size_t units, const uin
     expect(what, answer, wanted, NTFS_ANSWER_WORDS);
 }
 
+/* Checks with four marks of 0xFF, of which so many are lent: the answer, and the marks afterwards. */
+static void expect_check(const char *what, size_t root_length, size_t units, size_t lent, const uint64_t *wanted, const char *after)
+{
+    uint64_t answer[NTFS_CHECK_WORDS];
+    uint8_t marks[4];
+    memset(answer, 0xFF, sizeof answer);
+    memset(marks, 0xFF, sizeof marks);
+    ntfs_check(root, root_length, pool, sizeof pool, RECORD, table, units, marks, lent, answer);
+    expect(what, answer, wanted, NTFS_CHECK_WORDS);
+    if (memcmp(marks, after, sizeof marks) != 0) {
+        printf("%s: marks %02x %02x %02x %02x\n", what, marks[0], marks[1], marks[2], marks[3]);
+        faults++;
+    }
+}
+
+/* One record of two is reached. */
+static void check(void)
+{
+    static const uint64_t passed[] = {NTFS_PASSED, 0, 1}, no_table[] = {NTFS_REFUSED, NTFS_TABLE_LENGTH, 0};
+    static const uint64_t too_short[] = {NTFS_REFUSED, NTFS_MARKS_TOO_SHORT, 0}, short_root[] = {NTFS_REFUSED, NTFS_ROOT_TOO_SHORT, 0};
+    static const uint64_t falls[] = {NTFS_REFUSED, NTFS_NAME_FALLS, 1};
+    expect_check("check", ROOT_SIZE, 65536, 4, passed, "\0\1\xFF\xFF");
+    expect_check("check with marks enough", ROOT_SIZE, 65536, 2, passed, "\0\1\xFF\xFF");
+    expect_check("check with a mark too few", ROOT_SIZE, 65536, 1, too_short, "\xFF\xFF\xFF\xFF");
+    expect_check("check under a short table", ROOT_SIZE, 65535, 4, no_table, "\xFF\xFF\xFF\xFF");
+    expect_check("check of a short root", 31, 65536, 4, short_root, "\xFF\xFF\xFF\xFF");
+    put_entry(pool + RECORD + 64, 88, 0, 'a', 0);
+    expect_check("check of a name that falls", ROOT_SIZE, 65536, 4, falls, "\0\0\xFF\xFF");
+    put_entry(pool + RECORD + 64, 88, 0, 'C', 0);
+}
+
 int main(void)
 {
     static const uint64_t in_root[] = {NTFS_ENTRY, 0, 0, NTFS_ROOT, ROOT_ENTRY, 88};
@@ -116,6 +147,7 @@ int main(void)
     expect_find("find c", 'c', 65536, in_pool);
     expect_find("find d", 'd', 65536, end);
     expect_find("find under a short table", 'b', 65535, no_table);
+    check();
 
     /* any numbers are safe, and an entry told lies in what holds it */
     uint64_t seed = 1;

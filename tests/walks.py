@@ -1,4 +1,5 @@
-"""Whole walks in Python: the listing and the lookup by 01's rules, and by the crate's rules, which mark each listed difference they meet.
+"""Whole walks in Python: the listing and the lookup by 01's rules, and by the crate's rules, which mark each listed difference they meet;
+and the checker by 01's rules, which the crate has not.
 
 An answer is written as tests/answers.c writes it. The crate's rules are used only to explain an answer of the crate that is not ours.
 """
@@ -261,3 +262,67 @@ def search(rules, table, name):
 def lookup(rules, table, name):
     """A lookup's answer."""
     return ended(rules, search(rules, table, name))
+
+
+class Check:
+    """The checker's walk by 01's rules: the records reached and the names listed, so far."""
+
+    def __init__(self, directory, table):
+        self.directory, self.table, self.reached, self.names = directory, table, [], []
+
+    def node(self, node, level):
+        at = node.start
+        while at < node.used:
+            entry = entry_at(node, at)
+            at += len(entry)
+            last = entry[12] & 2
+            if at > node.used or (last and at != node.used):
+                raise Refused(23)
+            units = None if last else self.units(entry)
+            vcn = vcn_of(entry)
+            if vcn is not None:
+                self.subnode(vcn, level)
+            if last:
+                return
+            if self.names and order(self.table, units, self.names[-1]) < 0:
+                raise Refused(25)
+            self.names.append(units)
+        raise Refused(23)
+
+    def units(self, entry):
+        key = key_of(entry)
+        if key is None:
+            raise Refused(24)
+        return name_of(key)[1]
+
+    def subnode(self, vcn, level):
+        if not self.directory.pool:
+            raise Refused(10)
+        if level >= LEVELS:
+            raise Refused(11)
+        record = self.directory.place(vcn)
+        if record in self.reached:
+            raise Refused(22)
+        below = self.directory.read_record(vcn, record)
+        self.reached.append(record)
+        self.node(below, level + 1)
+
+
+def checked(root, pool, cluster, table, marks):
+    """The checker's answer, `passed COUNT` or `refused NUMBER COUNT`, and the marks afterwards."""
+    directory = Directory(root, pool, cluster)
+    walk = Check(directory, table)
+    try:
+        if len(table) != UNITS:
+            raise Refused(19)
+        top = directory.open_root()
+        records = len(pool) // directory.size if pool else 0
+        if len(marks) < records:
+            raise Refused(21)
+    except Refused as refused:
+        return f"refused {refused.number} 0", marks
+    try:
+        walk.node(top, 1)
+    except Refused as refused:
+        return f"refused {refused.number} {len(walk.reached)}", bytes(records) + marks[records:]
+    return f"passed {len(walk.reached)}", bytes(k in walk.reached for k in range(records)) + marks[records:]

@@ -1,4 +1,4 @@
--- The answer of a step or a lookup, and a cursor, as numbers: what crosses to C and Rust.
+-- The answer of a step, a lookup or a check, and a cursor, as numbers: what crosses to C and Rust.
 use Prim.Native.Nat.{ℕ, zero, suc, _+_, _*_, _-_, _^_, _<_}
 use mathlib.Core.Path.{_≡_}
 use mathlib.Core.List.{List, [], _∷_, _++_}
@@ -56,6 +56,8 @@ use Rattle.index.specs.Walk.{levels}
 use Rattle.index.specs.Step.{levelOf, blank, stepOf}
 use Rattle.index_finder.specs.declared.Finding.{Finding}
 use Rattle.index_finder.specs.declared.Finding.the-variants as Finding
+use Rattle.checker.specs.declared.Checking.{Checking}
+use Rattle.checker.specs.declared.Checking.the-variants as Checking
 use Rattle.c_api.specs.declared.Span.{Span}
 
 -- where the bytes of an entry lie: in the root, 0, or in the pool, 1; from which byte of it; how many
@@ -112,6 +114,11 @@ abbrev pub findingWords : Memory → Finding → List ℕ
 findingWords m (Finding.Found place opened) = entryWords m place opened
 findingWords m (Finding.Refused r opened) = refusalWords r opened
 findingWords m (Finding.NotFound opened) = noneWords opened
+
+-- of a check, three numbers: what, refusal, count; what is 1 for a pass, 2 for a refusal
+abbrev pub checkingWords : Checking → List ℕ
+checkingWords (Checking.Passed count) = 1 ∷ 0 ∷ count ∷ []
+checkingWords (Checking.Refused r count) = 2 ∷ numberOf r ∷ count ∷ []
 
 -- the 64 bits of a signed number: negsuc k is -(k + 1)
 abbrev pub bits64 : ℤ → ℕ

@@ -5,9 +5,11 @@ ghost use Rattle.index_node.specs.Memory.{memory};
 ghost use Rattle.index.specs.Walk.{allow};
 ghost use Rattle.index.specs.Step.{newCursor, stepOf};
 ghost use Rattle.index_finder.specs.Find.{lookup};
-ghost use Rattle.c_api.specs.Words.{spanIn, placeSpan, entryWords, refusalWords, noneWords, answerWords, findingWords};
+ghost use Rattle.checker.specs.Check.{checker};
+ghost use Rattle.c_api.specs.Words.{spanIn, placeSpan, entryWords, refusalWords, noneWords, answerWords, findingWords, checkingWords};
 ghost use Rattle.c_api.specs.Words.{bits64, nodeWord, vcnWord, nodeFrom, stageWord, dueWord, stageFrom, keptWord, keptFrom};
 ghost use Rattle.c_api.specs.Words.{levelWords, levelFrom, stored, cursorWords, cursorFrom};
+use checker::Checking;
 use index::Answer;
 use index::Cursor;
 use index::Kept;
@@ -118,6 +120,18 @@ fn finding_words<'a>(root: &'a [u8], pool: &'a [u8], cluster: usize, f: Finding)
         Finding::Found { place, opened } => entry_words(root, pool, cluster, place, opened),
         Finding::Refused { refusal, opened } => refusal_words(refusal, opened),
         Finding::NotFound(opened) => none_words(opened),
+    }
+}
+
+fn checking_words(c: Checking) -> [u64; 3]
+    ensures { λ r. ⌜ r ≡ checkingWords c ⌝ }
+{
+    match c {
+        Checking::Passed(count) => [1, 0, count],
+        Checking::Refused { refusal, opened } => {
+            let n = refusal.number() as u64;
+            [2, n, opened]
+        }
     }
 }
 
@@ -346,4 +360,22 @@ pub extern "C" fn ntfs_find<'a>(
     let f = index_finder::find(root, pool, cluster, table, name, allowance);
     let found = finding_words(root, pool, cluster, f);
     *answer = found;
+}
+
+// The checker: a pass or the first fault, and a mark for each record.
+#[no_mangle]
+pub extern "C" fn ntfs_check<'a>(
+    root: &'a [u8],
+    pool: &'a [u8],
+    cluster: usize,
+    table: &[u16],
+    marks: &mut [u8],
+    answer: &mut [u64; 3],
+)
+    ensures { λ _. ⌜ now (marks .exit) ≡ checker (now (table .entry)) (memory (now (root .entry)) (now (pool .entry)) cluster) (now (marks .entry)) .marks ⌝ }
+    ensures { λ _. ⌜ now (answer .exit) ≡ checkingWords (checker (now (table .entry)) (memory (now (root .entry)) (now (pool .entry)) cluster) (now (marks .entry)) .answer) ⌝ }
+{
+    let c = checker::check(root, pool, cluster, table, marks);
+    let w = checking_words(c);
+    *answer = w;
 }

@@ -45,6 +45,7 @@ use Rattle.index.proofs.open_record.Reads as open-record
 use Rattle.file_name.proofs.read_file_name.Reads as read-file-name
 use Rattle.file_name.proofs.name.Reads as name
 use Rattle.index_finder.proofs.find.Reads as find
+use Rattle.checker.proofs.check.Reads as check
 use Rattle.capture.proofs.parse.Reads as parse
 use Rattle.capture.proofs.root_bytes.Reads as root-bytes
 use Rattle.capture_line.proofs.line_length.Reads as line-length
@@ -57,6 +58,7 @@ use Rattle.capture.proofs.copy_pool.Reads as copy-pool
 use Rattle.c_api.proofs.ntfs_new_cursor.Reads as ntfs-new-cursor
 use Rattle.c_api.proofs.ntfs_step.Reads as ntfs-step
 use Rattle.c_api.proofs.ntfs_find.Reads as ntfs-find
+use Rattle.c_api.proofs.ntfs_check.Reads as ntfs-check
 
 -- two that equal one definition are equal
 same : {A : Type 0} {x y d : A} → x ≡ d → y ≡ d → x ≡ y
@@ -212,6 +214,13 @@ one-refused-length l a x y s t = same
 pub one-refused-byte : Coincide refused-byte.Post (λ l x. x)
 one-refused-byte l a x y s t = same
 
+-- its answer, and every byte of the marks that it was lent
+pub one-check : Coincide check.Post (λ l x. x)
+one-check l a x y s t p q = same (p .0) (q .0)
+
+pub one-check-marks : LeavesOne check.Post (λ l s. now (s .1 .1 .1 .1 .0))
+one-check-marks l a x y s t p q = same (p .1) (q .1)
+
 -- its answer, and every byte of the pool that it was lent
 pub one-copy-pool : Coincide copy-pool.Post (λ l x. x)
 one-copy-pool l a x y s t p q = same (p .0) (q .0)
@@ -240,3 +249,12 @@ one-ntfs-find l a x y s t p q = refl
 
 pub one-find-answer : LeavesOne ntfs-find.Post (λ l s. now (s .1 .1 .1 .1 .1 .1 .0))
 one-find-answer l a x y s t = same
+
+pub one-ntfs-check : Coincide ntfs-check.Post (λ l x. x)
+one-ntfs-check l a x y s t p q = refl
+
+pub one-ntfs-check-marks : LeavesOne ntfs-check.Post (λ l s. now (s .1 .1 .1 .1 .0))
+one-ntfs-check-marks l a x y s t p q = same (p .0) (q .0)
+
+pub one-ntfs-check-answer : LeavesOne ntfs-check.Post (λ l s. now (s .1 .1 .1 .1 .1 .0))
+one-ntfs-check-answer l a x y s t p q = same (p .1) (q .1)
