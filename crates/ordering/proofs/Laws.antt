@@ -30,6 +30,13 @@ ofTwo a b = elim (look (ltb a b)) [
   ]
 ]
 
+pub order-same : (a b : ℕ) → a ≡ b → order a b ≡ Equal
+order-same a b h = elim (ofTwo a b) [ lower p e ↦ absurd (omega arith) | same p e ↦ e | higher p e ↦ absurd (omega arith) ]
+
+-- two numbers that differ decide
+pub order-differs : (a b : ℕ) (o : Ordering) → (a ≡ b → ⊥) → orElse (order a b) o ≡ order a b
+order-differs a b o h = elim (ofTwo a b) [ lower p e ↦ rw e | same p e ↦ absurd (h p) | higher p e ↦ rw e ]
+
 order-exchange : (a b : ℕ) → order b a ≡ exchanged (order a b)
 order-exchange a b = elim (ofTwo a b) [
   | lower p e ↦ elim (ofTwo b a) [ lower q f ↦ absurd (omega arith) | same q f ↦ absurd (omega arith) | higher q f ↦ rw (e, f) ]

@@ -7,8 +7,8 @@ use mathlib.Core.Bool.{true, false}
 use native.Mathlib.Nat.{zero-add}
 use native.Mathlib.Numerals.{add-one}
 use native.Mathlib.Omega.{arith}
-use borrow.Author.Tests.{ltb-true, ltb-false, eq-eqb, ne-eqb}
-use lib.Dec.{ltb}
+use borrow.Author.Tests.{ltb-true, ltb-false, eq-eqb, ne-eqb, eqb-true, eqb-false}
+use lib.Dec.{ltb, eqb}
 use lib.ListN.{length, getD, drop, drop-of-length-le}
 use lib.Seq.{drop-cons}
 use Rattle.ordering.specs.declared.Ordering.{Ordering}
@@ -16,7 +16,7 @@ use Rattle.ordering.specs.declared.Ordering.the-variants.{Less, Equal, Greater}
 use Rattle.ordering.specs.Order.{order, orElse, lexical}
 use Rattle.ordering.specs.Total.{Total}
 use Rattle.logic.proofs.Cases.{it, look}
-use Rattle.ordering.proofs.Laws.{lexical-total}
+use Rattle.ordering.proofs.Laws.{order-same, order-differs, lexical-total}
 use Rattle.refusal.specs.declared.Refusal.the-variants.{TableLength}
 use Rattle.upcase_table.specs.declared.Compared.the-variants.{Ordered, Refused}
 use Rattle.upcase_table.specs.Names.{unitsOf, upcase, nameOrder, tableUnits, comparedNames}
@@ -48,15 +48,23 @@ pub record Comparing (map : ℕ → ℕ) (us vs : List ℕ) (end i : ℕ) (whole
 
 module _ {map : ℕ → ℕ} {us vs : List ℕ} {end i : ℕ} {whole : Ordering} (at : Comparing map us vs end i whole) where
   -- both have a unit at i: the order of the two, or else that of the rest
-  pub first : {step : Ordering} → i < end → step ≡ order (map (getD us i 0)) (map (getD vs i 0))
-      → orElse step (lexical map (drop (i + 1) us) (drop (i + 1) vs)) ≡ whole
+  first : i < end → orElse (order (map (getD us i 0)) (map (getD vs i 0))) (lexical map (drop (i + 1) us) (drop (i + 1) vs)) ≡ whole
   unfolding lexical
-  first {step} h e =
+  first h =
       let s = at .shorter in
-      rw (e, add-one) (rw (drop-cons us i 0 (omega arith), drop-cons vs i 0 (omega arith)) at (at .same))
+      rw add-one (rw (drop-cons us i 0 (omega arith), drop-cons vs i 0 (omega arith)) at (at .same))
 
-  pub again : i < end → lexical map (drop (i + 1) us) (drop (i + 1) vs) ≡ whole → Comparing map us vs end (i + 1) whole
-  again h e = record { most = omega arith; shorter = at .shorter; same = e }
+  -- the two agree: the rest decides
+  pub agreed : i < end → eqb (map (getD us i 0)) (map (getD vs i 0)) ≡ true → Comparing map us vs end (i + 1) whole
+  agreed h e = record {
+    most = omega arith;
+    shorter = at .shorter;
+    same = rw (order-same _ _ (eqb-true _ _ e)) at (first h);
+  }
+
+  -- they differ: they decide
+  pub differed : i < end → eqb (map (getD us i 0)) (map (getD vs i 0)) ≡ false → order (map (getD us i 0)) (map (getD vs i 0)) ≡ whole
+  differed h e = sym (order-differs _ _ _ (eqb-false _ _ e)) ∙ first h
 
   -- one has run out: the order of the lengths
   pub lengths : end ≤ i → order (length us) (length vs) ≡ whole

@@ -1,6 +1,7 @@
 // The order of two names under a lent upcase table: upcase_cmp_iter of src/upcase_table.rs.
 ghost use mathlib.Core.Path.{_≡_};
 ghost use Prim.Native.Nat.{_+_, _*_, _≤_, _<_, _/_, min};
+ghost use lib.Dec.{eqb};
 ghost use lib.ListN.{length, getD};
 ghost use Rattle.ordering.specs.Order.{order};
 ghost use Rattle.upcase_table.specs.Names.{unitsOf, upcase, nameOrder, tableUnits, comparedNames};
@@ -47,6 +48,14 @@ fn u16_to_uppercase(table: &[u16], unit: u16) -> u16
     table[i]
 }
 
+// Whether two units are the same once mapped.
+fn agree(table: &[u16], a: u16, b: u16) -> bool
+    requires { ⌜ length (now table) ≡ tableUnits ⌝ }
+    ensures { λ r. ⌜ r ≡ eqb (upcase (now (table .entry)) a) (upcase (now (table .entry)) b) ⌝ }
+{
+    u16_to_uppercase(table, a) == u16_to_uppercase(table, b)
+}
+
 // Two units, each mapped once.
 fn compare_units(table: &[u16], a: u16, b: u16) -> Ordering
     requires { ⌜ length (now table) ≡ tableUnits ⌝ }
@@ -74,13 +83,12 @@ fn upcase_cmp_iter(table: &[u16], name: &[u16], other: &[u8]) -> Ordering
     let end = least(name.len(), units);
     let mut i = 0;
     while i < end {
-        let step = compare_units(table, name[i], unit_at(other, i));
-        match step {
-            Ordering::Less => return Ordering::Less,
-            Ordering::Greater => return Ordering::Greater,
-            Ordering::Equal => {
-                i += 1;
-            }
+        let a = name[i];
+        let b = unit_at(other, i);
+        if agree(table, a, b) {
+            i += 1;
+        } else {
+            return compare_units(table, a, b);
         }
     }
     ordering::compare(name.len() as u64, units as u64)
@@ -95,13 +103,12 @@ fn upcase_cmp_iter_keys(table: &[u16], name: &[u8], other: &[u8]) -> Ordering
     let end = least(count, units);
     let mut i = 0;
     while i < end {
-        let step = compare_units(table, unit_at(name, i), unit_at(other, i));
-        match step {
-            Ordering::Less => return Ordering::Less,
-            Ordering::Greater => return Ordering::Greater,
-            Ordering::Equal => {
-                i += 1;
-            }
+        let a = unit_at(name, i);
+        let b = unit_at(other, i);
+        if agree(table, a, b) {
+            i += 1;
+        } else {
+            return compare_units(table, a, b);
         }
     }
     ordering::compare(count as u64, units as u64)

@@ -1,8 +1,8 @@
 -- `upcase_cmp_iter`: the loop goes up the units where the definition goes down its lists; the invariant is `Comparing`.
--- Each turn cites `first`: the two units decide, or the rest does. After the loop the lengths decide.
-use mathlib.Core.Path.{refl, _∙_}
+-- Each turn cites `differed` or `agreed`: the two units decide, or the rest does. After the loop the lengths decide.
+use mathlib.Core.Path.{refl, sym, _∙_}
 use Prim.Native.Nat.{_-_}
-use Rattle.upcase_table.proofs.Laws.{units-length, Comparing, first, again, lengths}
+use Rattle.upcase_table.proofs.Laws.{units-length, Comparing, agreed, differed, lengths}
 use borrow.Author.Needs.{needs}
 use denote.Ref.{now}
 use Rattle.upcase_table.specs.Names.{unitsOf, upcase, nameOrder}
@@ -10,7 +10,8 @@ use Rattle.upcase_table.proofs.upcase_cmp_iter.Statement.{statement}
 use Rattle.upcase_table.proofs.upcase_cmp_iter.Tie as tie
 
 abbrev Inv-loop : tie.InvT-loop
-Inv-loop table name other units end i₀ i = Comparing (upcase table) name (unitsOf other) end i (nameOrder table name (unitsOf other))
+Inv-loop table name other units end i₀ i =
+    Comparing (upcase table) name (unitsOf other) end i (nameOrder table name (unitsOf other))
 
 abbrev μ-loop : tie.MeasureT-loop
 μ-loop table name other units end i₀ i = end - i
@@ -19,45 +20,20 @@ least-requires : tie.Need-least-requires Inv-loop μ-loop
 least-requires c κs = search needs
 
 loop-holds : tie.Need-loop-holds Inv-loop μ-loop
-loop-holds c = record {
-  most = search needs;
-  shorter = rw (units-length (now (c .before .before .before .before .args .other))) (c .least .ensures);
-  same =
-      refl;
-}
+loop-holds c =
+    record { most = search needs; shorter = rw (units-length (now (c .before .before .before .before .args .other))) (c .least .ensures); same = refl }
 
-mul-compare-units : tie.Need-mul-compare-units Inv-loop μ-loop
-mul-compare-units c = search needs
+mul-a : tie.Need-mul-a Inv-loop μ-loop
+mul-a c = search needs
 
-shared-slice-read-compare-units : tie.Need-shared-slice-read-compare-units Inv-loop μ-loop
-shared-slice-read-compare-units c = search needs
+shared-slice-read-a : tie.Need-shared-slice-read-a Inv-loop μ-loop
+shared-slice-read-a c = search needs
 
 unit-at-requires : tie.Need-unit-at-requires Inv-loop μ-loop
 unit-at-requires c κs = search needs
 
-compare-units-requires : tie.Need-compare-units-requires Inv-loop μ-loop
-compare-units-requires c κs = search needs
-
-enum-told : tie.Need-enum-told Inv-loop μ-loop
-enum-told c = search needs
-
-returns : tie.Need-returns Inv-loop μ-loop
-returns c =
-    rw (c .enum-told .given .1) at (first (c .before .before .before .before .before .before .loop .inv)
-    (c .before .before .before .before .before .loop-test .taken)
-    (rw (c .before .before .before .unit-at .ensures) at (c .before .before .compare-units .ensures)))
-
-enum-told-2 : tie.Need-enum-told-2 Inv-loop μ-loop
-enum-told-2 c = search needs
-
-returns-2 : tie.Need-returns-2 Inv-loop μ-loop
-returns-2 c =
-    rw (c .enum-told2 .given .1) at (first (c .before .before .before .before .before .before .loop .inv)
-    (c .before .before .before .before .before .loop-test .taken)
-    (rw (c .before .before .before .unit-at .ensures) at (c .before .before .compare-units .ensures)))
-
-enum-told-3 : tie.Need-enum-told-3 Inv-loop μ-loop
-enum-told-3 c = search needs
+agree-requires : tie.Need-agree-requires Inv-loop μ-loop
+agree-requires c κs = search needs
 
 add-i : tie.Need-add-i Inv-loop μ-loop
 add-i c = search needs
@@ -67,18 +43,25 @@ loop-less c = search needs
 
 loop-again : tie.Need-loop-again Inv-loop μ-loop
 loop-again c =
-    again (c .before .before .before .before .before .before .loop .inv) (c .before .before .before .before .before .loop-test .taken)
-    (rw (c .enum-told3 .given .1) at (first (c .before .before .before .before .before .before .loop .inv)
-    (c .before .before .before .before .before .loop-test .taken)
-    (rw (c .before .before .before .unit-at .ensures) at (c .before .before .compare-units .ensures))))
+    agreed (c .before .before .before .before .before .loop .inv) (c .before .before .before .before .loop-test .taken)
+    (rw (c .before .before .unit-at .ensures) at (sym (c .before .agree .ensures) ∙ c .if1 .taken))
+
+compare-units-requires : tie.Need-compare-units-requires Inv-loop μ-loop
+compare-units-requires c κs = search needs
+
+returns : tie.Need-returns Inv-loop μ-loop
+returns c =
+    c .compare-units .ensures
+    ∙ (rw (c .before .before .before .unit-at .ensures) (differed (c .before .before .before .before .before .before .loop .inv) (c .before .before .before .before .before .loop-test .taken)
+    (rw (c .before .before .before .unit-at .ensures) at (sym (c .before .before .agree .ensures) ∙ c .before .if1 .left))))
 
 compare-requires : tie.Need-compare-requires Inv-loop μ-loop
 compare-requires c κs = search needs
 
-returns-3 : tie.Need-returns-3 Inv-loop μ-loop
-returns-3 c =
-    c .compare .ensures ∙ (rw (units-length (now (c .before .before .before .before .before .before .before .args .other))) at
-    (lengths (c .before .before .loop .inv) (c .before .loop-test .left)))
+returns-2 : tie.Need-returns-2 Inv-loop μ-loop
+returns-2 c =
+    c .compare .ensures
+    ∙ (rw (units-length (now (c .before .before .before .before .before .before .before .args .other))) at (lengths (c .before .before .loop .inv) (c .before .loop-test .left)))
 
 pub upcase-cmp-iter-spec : {M : Type 1} → statement M
 upcase-cmp-iter-spec =
@@ -88,17 +71,14 @@ upcase-cmp-iter-spec =
     μ-loop
     least-requires
     loop-holds
-    mul-compare-units
-    shared-slice-read-compare-units
+    mul-a
+    shared-slice-read-a
     unit-at-requires
-    compare-units-requires
-    enum-told
-    returns
-    enum-told-2
-    returns-2
-    enum-told-3
+    agree-requires
     add-i
     loop-less
     loop-again
+    compare-units-requires
+    returns
     compare-requires
-    returns-3)
+    returns-2)
