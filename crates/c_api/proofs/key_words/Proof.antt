@@ -1,5 +1,6 @@
 -- `key_words`: what `read_file_name` answers is what the definition goes by.
 -- Each arm puts the answer into it.
+use mathlib.Core.Path.{refl}
 use borrow.Author.Needs.{needs}
 use Rattle.c_api.proofs.key_words.Statement.{statement}
 use Rattle.c_api.proofs.key_words.Tie as tie
@@ -23,7 +24,7 @@ unnamed-words-requires : tie.Need-unnamed-words-requires
 unnamed-words-requires c κs = search needs
 
 returns : tie.Need-returns
-returns c = rw (← c .before .before .before .read-file-name .ensures, c .before .namespace .given .1)
+returns c = rw (← c .before .before .before .read-file-name .ensures, c .before .namespace .given .1) refl
 
 returns-2 : tie.Need-returns-2
 returns-2 c = rw (← c .before .before .before .before .read-file-name .ensures, c .before .before .r .given .1) (c .unnamed-words .ensures)
