@@ -1,11 +1,11 @@
 -- The answer of a step, a lookup or a check, an entry's name, and a cursor, as numbers: what crosses to C and Rust.
-use Prim.Native.Nat.{ℕ, zero, suc, _+_, _*_, _-_, _^_, _<_}
+use Prim.Native.Nat.{ℕ, zero, suc, _+_, _*_, _-_, _^_, _≤_, _<_}
 use mathlib.Core.Path.{_≡_}
 use mathlib.Core.List.{List, [], _∷_, _++_}
 use mathlib.Core.Bool.{Bool, cond}
 use lib.Dec.{leb}
 use lib.IntN.{ℤ, pos, negsuc}
-use lib.ListN.{length, getD, set}
+use lib.ListN.{length, getD, set, take, drop}
 use Rattle.le.specs.Le.{signed64}
 use Rattle.refusal.specs.declared.Refusal.{Refusal}
 use Rattle.refusal.specs.declared.Refusal.the-variants.{
@@ -43,7 +43,7 @@ use Rattle.index_entry.specs.Entry.{entryAt, keyOf}
 use Rattle.index_entry.specs.Entry as Entry
 use Rattle.file_name.specs.declared.FileName.{FileName}
 use Rattle.file_name.specs.declared.FileName.the-variants as FileName
-use Rattle.file_name.specs.Name.{fileNameOf}
+use Rattle.file_name.specs.Name.{fileNameOf, nameOf}
 use Rattle.file_name.specs.Name as Name
 use Rattle.index_allocation.specs.declared.Lies.{Lies}
 use Rattle.index_allocation.specs.declared.Lies.the-variants as Lies
@@ -160,6 +160,13 @@ entryPartWords (present entry) = nameWords entry
 -- of the entry that lent bytes begin with
 unfoldable pub entryNameWords : List ℕ → List ℕ
 entryNameWords bytes = entryPartWords (entryAt bytes 0)
+
+-- w tells the name of the entry that lent bytes begin with: from its offset on, two for each of its units, they are the name in the entry's key
+pub record TellsName (bytes w entry key : List ℕ) : Type 0 where
+  pub entry-there : entryAt bytes 0 ≡ present entry
+  pub key-there : keyOf entry ≡ present key
+  pub within : getD w 5 0 + 2 * getD w 6 0 ≤ length bytes
+  pub same : take (2 * getD w 6 0) (drop (getD w 5 0) bytes) ≡ nameOf key
 
 -- the 64 bits of a signed number: negsuc k is -(k + 1)
 abbrev pub bits64 : ℤ → ℕ
