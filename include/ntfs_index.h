@@ -4,7 +4,7 @@
    update sequences undone; of length 0 where the directory has none), and the cluster size of the volume in bytes.
 
    What is lent. A slice is two arguments, a pointer to its first element and its length in elements. A pointer may not be NULL, not
-   even where the length is 0: lend any address then. It must be aligned as its type asks. Root, pool, table and name are only read.
+   even where the length is 0: lend any address then. It must be aligned as its type asks. Root, pool, table, name and entry are only read.
    They may overlap each other, but not an array that is written; the two arrays that ntfs_step or ntfs_check writes may not overlap
    either. Nothing else may write to what is lent until the call returns. No pointer is kept after that.
 
@@ -26,12 +26,14 @@ extern "C" {
 enum {
     NTFS_CURSOR_WORDS = 43,
     NTFS_ANSWER_WORDS = 6,
-    NTFS_CHECK_WORDS = 3
+    NTFS_CHECK_WORDS = 3,
+    NTFS_NAME_WORDS = 7
 };
 
-/* Which number of an answer is what; that of a check has the first three. All that is not said to hold something is 0. */
+/* Which number of an answer is what; that of a check has the first three, that of ntfs_entry_name the first two. All that is not said to
+   hold something is 0. */
 enum {
-    NTFS_WHAT = 0,    /* one of NTFS_NONE, NTFS_ENTRY, NTFS_REFUSED; of a check NTFS_PASSED or NTFS_REFUSED */
+    NTFS_WHAT = 0,    /* NTFS_NONE, NTFS_ENTRY or NTFS_REFUSED; of a check NTFS_PASSED or NTFS_REFUSED; of a name NTFS_NAMED for NTFS_ENTRY */
     NTFS_REFUSAL = 1, /* of a refusal: its number */
     NTFS_OPENED = 2,  /* how many records have been opened so far */
     NTFS_HOLDER = 3,  /* of an entry: NTFS_ROOT or NTFS_POOL, the slice that holds it */
@@ -39,10 +41,20 @@ enum {
     NTFS_SIZE = 5     /* of an entry: its length in bytes */
 };
 
+/* The others of ntfs_entry_name. */
 enum {
-    NTFS_NONE = 0,   /* a listing: the end; a lookup: not found */
+    NTFS_RECORD_NUMBER = 2, /* of the file reference: the number of the file's record */
+    NTFS_SEQUENCE = 3,      /* of the file reference: its sequence */
+    NTFS_NAMESPACE = 4,     /* of a name: 0 to 3, POSIX, Win32, DOS, Win32 and DOS */
+    NTFS_NAME_OFFSET = 5,   /* of a name: where in the entry it begins, in bytes */
+    NTFS_NAME_UNITS = 6     /* of a name: how many UTF-16 units it has */
+};
+
+enum {
+    NTFS_NONE = 0,   /* a listing: the end; a lookup: not found; ntfs_entry_name: the entry has no key */
     NTFS_ENTRY = 1,  /* a listing: the next entry; a lookup: the entry found */
     NTFS_PASSED = 1, /* a check: no fault */
+    NTFS_NAMED = 1,  /* ntfs_entry_name: the entry has a name */
     NTFS_REFUSED = 2
 };
 
@@ -127,6 +139,14 @@ void ntfs_check(
     const uint16_t *table, size_t table_length,
     uint8_t *marks, size_t marks_length,
     uint64_t answer[NTFS_CHECK_WORDS]);
+
+/* What an entry says: the file it refers to, and its name. Writes the 7 numbers of the answer.
+
+   entry: the bytes that ntfs_step or ntfs_find told, or any others; where they are more than the entry's own length says, the rest is not
+   looked at. The refusals are 8 (the bytes are no entry), 9 (the key ends outside the entry) and 18 (the key is no file name). The file
+   reference is told on every answer but 8. The bytes of the name are at the offset told, two for each unit, the low byte first, and lie
+   in the bytes lent. */
+void ntfs_entry_name(const uint8_t *entry, size_t entry_length, uint64_t answer[NTFS_NAME_WORDS]);
 
 #ifdef __cplusplus
 }

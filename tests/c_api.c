@@ -1,4 +1,4 @@
-/* Lists a small directory from C, looks names up in it, checks it, and sees to every number: rt staticlib c_api, then
+/* Lists a small directory from C, looks names up in it, checks it, reads its entries, and sees to every number: rt staticlib c_api, then
    cc -std=c99 -Wall -Wextra -pedantic -Iinclude tests/c_api.c target/staticlib/libc_api.a -o target/c_api && target/c_api */
 #include "ntfs_index.h"
 #include <stdio.h>
@@ -111,6 +111,82 @@ static void check(void)
     put_entry(pool + RECORD + 64, 88, 0, 'C', 0);
 }
 
+static void expect_name(const char *what, const uint8_t *entry, size_t length, const uint64_t *wanted)
+{
+    uint64_t answer[NTFS_NAME_WORDS];
+    memset(answer, 0xFF, sizeof answer);
+    ntfs_entry_name(entry, length, answer);
+    expect(what, answer, wanted, NTFS_NAME_WORDS);
+}
+
+/* An entry of 88 bytes, in more: record 41, sequence 3, the name A. */
+static void name(void)
+{
+    static const uint64_t named[] = {NTFS_NAMED, 0, 41, 3, 1, 82, 1}, empty[] = {NTFS_NAMED, 0, 41, 3, 3, 82, 0};
+    static const uint64_t none[] = {NTFS_NONE, 0, 41, 3, 0, 0, 0}, no_entry[] = {NTFS_REFUSED, NTFS_ENTRY_SIZE, 0, 0, 0, 0, 0};
+    static const uint64_t outside[] = {NTFS_REFUSED, NTFS_ENTRY_DATA_RANGE, 41, 3, 0, 0, 0};
+    static const uint64_t unreadable[] = {NTFS_REFUSED, NTFS_KEY_UNREADABLE, 41, 3, 0, 0, 0};
+    static const uint64_t large[] = {NTFS_NAMED, 0, 0xFFFFFFFFFFFF, 0xFFFF, 1, 82, 1};
+    uint8_t entry[96] = {0};
+
+    put_entry(entry, 88, 0, 'A', 0);
+    put(entry, 6, 41);
+    put(entry + 6, 2, 3);
+    expect_name("name", entry, 88, named);
+    expect_name("name in more bytes", entry, sizeof entry, named);
+    expect_name("entry a byte short", entry, 87, no_entry);
+    expect_name("no bytes", entry, 0, no_entry);
+    expect_name("bytes for no header", entry, 15, no_entry);
+    put(entry + 12, 2, 2);
+    expect_name("LAST_ENTRY", entry, 88, none);
+    put(entry + 12, 2, 0);
+    put(entry + 10, 2, 72);
+    expect_name("key to the entry's end", entry, 88, named);
+    put(entry + 10, 2, 73);
+    expect_name("key past the entry's end", entry, sizeof entry, outside);
+    put(entry + 10, 2, 67);
+    expect_name("key a byte short", entry, 88, unreadable);
+    put(entry + 10, 2, 65);
+    expect_name("key without a namespace", entry, 88, unreadable);
+    put(entry + 10, 2, 0);
+    expect_name("no key", entry, 88, none);
+    put(entry + 10, 2, 66);
+    entry[16 + 64] = 0;
+    entry[16 + 65] = 3;
+    expect_name("empty name", entry, 88, empty);
+    entry[16 + 65] = 4;
+    expect_name("namespace 4", entry, 88, unreadable);
+    put(entry + 8, 2, 15);
+    expect_name("length 15", entry, sizeof entry, no_entry);
+    put(entry + 8, 2, 16);
+    expect_name("length 16", entry, sizeof entry, outside);
+    put_entry(entry, 88, 0, 'A', 0);
+    put(entry, 8, UINT64_MAX);
+    expect_name("every bit of the reference", entry, 88, large);
+
+    /* any bytes are safe, and a name told lies in them */
+    uint64_t seed = 1, answer[NTFS_NAME_WORDS], names = 0;
+    for (int i = 0; i < 100000; i++) {
+        static const uint8_t fields[] = {8, 10, 12, 16 + 64, 16 + 65};
+        for (size_t k = 0; k < sizeof fields; k++) {
+            seed = seed * 6364136223846793005u + 1442695040888963407u;
+            entry[fields[k]] = (uint8_t)(seed >> 33 & (k < 2 ? 127 : 7));
+        }
+        size_t lent = seed >> 50 & 1 ? sizeof entry : seed >> 51 & 63;
+        ntfs_entry_name(entry, lent, answer);
+        uint64_t end = answer[NTFS_NAME_OFFSET] + 2 * answer[NTFS_NAME_UNITS];
+        names += answer[NTFS_WHAT] == NTFS_NAMED;
+        if (answer[NTFS_WHAT] > NTFS_REFUSED || end > lent || (answer[NTFS_WHAT] == NTFS_NAMED) != (answer[NTFS_NAME_OFFSET] == 82)) {
+            printf("any bytes: round %d\n", i);
+            faults++;
+        }
+    }
+    if (names == 0) {
+        puts("any bytes: no name");
+        faults++;
+    }
+}
+
 int main(void)
 {
     static const uint64_t in_root[] = {NTFS_ENTRY, 0, 0, NTFS_ROOT, ROOT_ENTRY, 88};
@@ -148,6 +224,7 @@ int main(void)
     expect_find("find d", 'd', 65536, end);
     expect_find("find under a short table", 'b', 65535, no_table);
     check();
+    name();
 
     /* any numbers are safe, and an entry told lies in what holds it */
     uint64_t seed = 1;

@@ -12,8 +12,17 @@ use lib.Signed.{ltZ}
 use mir.Syntax.{w64}
 use mir.Val.{SFits, toZ, ofZ}
 use types.Run.{OneOf}
+use Rattle.logic.proofs.Cases.{clash}
 use Rattle.le.specs.Le.{signed64}
 use Rattle.refusal.specs.declared.Refusal.{Refusal}
+use Rattle.refusal.specs.declared.Refusal.the-variants.{EntrySize}
+use Rattle.refusal.specs.Part.{Part, absent, refused, present, bytesOf}
+use Rattle.file_reference.specs.declared.FileReference.{FileReference}
+use Rattle.file_reference.specs.Reference.{referenceOf, recordNumberOf, sequenceOf}
+use Rattle.index_entry.specs.declared.EntryAt.the-variants as EntryAt
+use Rattle.index_entry.specs.declared.KeyPart.the-variants as KeyPart
+use Rattle.index_entry.specs.Entry.{entryAt, keyOf, entrySays, keySays}
+use Rattle.file_name.specs.Name.{fileNameOf}
 use Rattle.index_allocation.specs.declared.Lies.the-variants as Lies
 use Rattle.index_allocation.specs.Place.{recordAt}
 use Rattle.index_root.specs.Root.{recordSizeOf}
@@ -26,6 +35,7 @@ use Rattle.index.specs.declared.Level.{Level}
 use Rattle.index.specs.declared.Cursor.{Cursor}
 use Rattle.index.specs.Step.{blank}
 use Rattle.c_api.specs.Words.{spanOf, spanIn, placeSpan, bits64, nodeFrom, stageFrom, keptNumbers, keptFrom}
+use Rattle.c_api.specs.Words.{unnamedWords, keyWords, keyPartWords, nameWords, entryPartWords, entryNameWords}
 use Rattle.c_api.specs.Words.{nodeWord, vcnWord, stageWord, dueWord, keptWord, levelWords, stored, levelsWords, cursorWords}
 
 module _ (holder from len at size : ℕ) where
@@ -114,3 +124,50 @@ module _ (c : Cursor) where
       → w7 ≡ stored w6 38 (level 7) → w7 ≡ cursorWords c
   unfolding stored cursorWords levelsWords
   eight e e0 e1 e2 e3 e4 e5 e6 e7 = rw (e7, e6, e5, e4, e3, e2, e1, e0, e)
+
+-- what the code is told of a key part decides its words
+key-absent : (p : Part (List ℕ)) (n s : ℕ) → keySays p ≡ KeyPart.Absent → 0 ∷ 0 ∷ n ∷ s ∷ 0 ∷ 0 ∷ 0 ∷ [] ≡ keyPartWords p n s
+key-absent absent n s e = refl
+key-absent (refused r) n s e = clash cc
+key-absent (present key) n s e = clash cc
+
+key-there : (p : Part (List ℕ)) (n s : ℕ) → keySays p ≡ KeyPart.Present → keyWords (fileNameOf (bytesOf p)) n s ≡ keyPartWords p n s
+key-there absent n s e = clash cc
+key-there (refused r) n s e = clash cc
+key-there (present key) n s e = refl
+
+key-refused : (p : Part (List ℕ)) (r : Refusal) (n s : ℕ) → keySays p ≡ KeyPart.Refused r → unnamedWords r n s ≡ keyPartWords p n s
+key-refused absent r n s e = clash cc
+key-refused (refused q) r n s e = let same : q ≡ r = cc in rw same
+key-refused (present key) r n s e = clash cc
+
+-- of an entry whose reference has been read
+module _ (entry : List ℕ) {f : FileReference} {n s : ℕ} (e : f ≡ referenceOf entry) (a : n ≡ recordNumberOf f) (b : s ≡ sequenceOf f) where
+  pub name-absent : keySays (keyOf entry) ≡ KeyPart.Absent → 0 ∷ 0 ∷ n ∷ s ∷ 0 ∷ 0 ∷ 0 ∷ [] ≡ nameWords entry
+  name-absent k = rw (a, b, e) (key-absent (keyOf entry) _ _ k)
+
+  pub name-there : keySays (keyOf entry) ≡ KeyPart.Present → keyWords (fileNameOf (bytesOf (keyOf entry))) n s ≡ nameWords entry
+  name-there k = rw (a, b, e) (key-there (keyOf entry) _ _ k)
+
+  pub name-refused : {r : Refusal} → keySays (keyOf entry) ≡ KeyPart.Refused r → unnamedWords r n s ≡ nameWords entry
+  name-refused k = rw (a, b, e) (key-refused (keyOf entry) _ _ _ k)
+
+-- what the code is told of an entry decides the words
+part-there : (p : Part (List ℕ)) {size : ℕ} → entrySays p ≡ EntryAt.Entry size → nameWords (bytesOf p) ≡ entryPartWords p
+part-there absent e = clash cc
+part-there (refused r) e = clash cc
+part-there (present entry) e = refl
+
+part-refused : (p : Part (List ℕ)) {r : Refusal} → entrySays p ≡ EntryAt.Refused r → unnamedWords r 0 0 ≡ entryPartWords p
+part-refused absent {r} e = let same : EntrySize ≡ r = cc in rw (← same)
+part-refused (refused q) {r} e = let same : q ≡ r = cc in rw same
+part-refused (present entry) e = clash cc
+
+module _ (bytes : List ℕ) where
+  pub entry-there : {size : ℕ} → entrySays (entryAt bytes 0) ≡ EntryAt.Entry size → nameWords (bytesOf (entryAt bytes 0)) ≡ entryNameWords bytes
+  unfolding entryNameWords
+  entry-there e = part-there (entryAt bytes 0) e
+
+  pub entry-refused : {r : Refusal} → entrySays (entryAt bytes 0) ≡ EntryAt.Refused r → unnamedWords r 0 0 ≡ entryNameWords bytes
+  unfolding entryNameWords
+  entry-refused e = part-refused (entryAt bytes 0) e

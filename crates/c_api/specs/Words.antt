@@ -1,11 +1,11 @@
--- The answer of a step, a lookup or a check, and a cursor, as numbers: what crosses to C and Rust.
-use Prim.Native.Nat.{ℕ, zero, suc, _+_, _*_, _-_, _^_, _<_}
+-- The answer of a step, a lookup or a check, an entry's name, and a cursor, as numbers: what crosses to C and Rust.
+use Prim.Native.Nat.{ℕ, zero, suc, _+_, _*_, _-_, _^_, _≤_, _<_}
 use mathlib.Core.Path.{_≡_}
 use mathlib.Core.List.{List, [], _∷_, _++_}
 use mathlib.Core.Bool.{Bool, cond}
 use lib.Dec.{leb}
 use lib.IntN.{ℤ, pos, negsuc}
-use lib.ListN.{length, getD, set}
+use lib.ListN.{length, getD, set, take, drop}
 use Rattle.le.specs.Le.{signed64}
 use Rattle.refusal.specs.declared.Refusal.{Refusal}
 use Rattle.refusal.specs.declared.Refusal.the-variants.{
@@ -37,6 +37,14 @@ use Rattle.refusal.specs.declared.Refusal.the-variants.{
   MalformedCapture,
 }
 use Rattle.refusal.specs.Number.{numberOf}
+use Rattle.refusal.specs.Part.{Part, absent, refused, present}
+use Rattle.file_reference.specs.Reference.{referenceOf, recordNumberOf, sequenceOf}
+use Rattle.index_entry.specs.Entry.{entryAt, keyOf}
+use Rattle.index_entry.specs.Entry as Entry
+use Rattle.file_name.specs.declared.FileName.{FileName}
+use Rattle.file_name.specs.declared.FileName.the-variants as FileName
+use Rattle.file_name.specs.Name.{fileNameOf, nameOf}
+use Rattle.file_name.specs.Name as Name
 use Rattle.index_allocation.specs.declared.Lies.{Lies}
 use Rattle.index_allocation.specs.declared.Lies.the-variants as Lies
 use Rattle.index_root.specs.Root.{recordSizeOf}
@@ -119,6 +127,46 @@ findingWords m (Finding.NotFound opened) = noneWords opened
 abbrev pub checkingWords : Checking → List ℕ
 checkingWords (Checking.Passed count) = 1 ∷ 0 ∷ count ∷ []
 checkingWords (Checking.Refused r count) = 2 ∷ numberOf r ∷ count ∷ []
+
+-- where the name begins in an entry: after the entry's header and what stands before the name in a key
+abbrev pub nameOffset : ℕ
+nameOffset = Entry.headerSize + Name.headerSize
+
+-- an entry's file reference and name, seven numbers: what, refusal, record number, sequence, namespace, offset, units; a refusal: what is 2
+abbrev pub unnamedWords : Refusal → (number sequence : ℕ) → List ℕ
+unnamedWords r number sequence = 2 ∷ numberOf r ∷ number ∷ sequence ∷ 0 ∷ 0 ∷ 0 ∷ []
+
+-- of a key, with its entry's reference: a name, what is 1; or 18
+abbrev pub keyWords : FileName → (number sequence : ℕ) → List ℕ
+keyWords (FileName.Name namespace units) number sequence = 1 ∷ 0 ∷ number ∷ sequence ∷ namespace ∷ nameOffset ∷ units ∷ []
+keyWords (FileName.Refused r) number sequence = unnamedWords r number sequence
+
+-- of the key part: no key, what is 0; 9; or a key
+abbrev pub keyPartWords : Part (List ℕ) → (number sequence : ℕ) → List ℕ
+keyPartWords absent number sequence = 0 ∷ 0 ∷ number ∷ sequence ∷ 0 ∷ 0 ∷ 0 ∷ []
+keyPartWords (refused r) number sequence = unnamedWords r number sequence
+keyPartWords (present key) number sequence = keyWords (fileNameOf key) number sequence
+
+-- of an entry: its reference, whatever its key
+abbrev pub nameWords : List ℕ → List ℕ
+nameWords entry = keyPartWords (keyOf entry) (recordNumberOf (referenceOf entry)) (sequenceOf (referenceOf entry))
+
+-- of what stands where an entry should: 8 has no reference (`entryAt` is never absent)
+abbrev pub entryPartWords : Part (List ℕ) → List ℕ
+entryPartWords absent = unnamedWords EntrySize 0 0
+entryPartWords (refused r) = unnamedWords r 0 0
+entryPartWords (present entry) = nameWords entry
+
+-- of the entry that lent bytes begin with
+unfoldable pub entryNameWords : List ℕ → List ℕ
+entryNameWords bytes = entryPartWords (entryAt bytes 0)
+
+-- w tells the name of the entry that lent bytes begin with: from its offset on, two for each of its units, they are the name in the entry's key
+pub record TellsName (bytes w entry key : List ℕ) : Type 0 where
+  pub entry-there : entryAt bytes 0 ≡ present entry
+  pub key-there : keyOf entry ≡ present key
+  pub within : getD w 5 0 + 2 * getD w 6 0 ≤ length bytes
+  pub same : take (2 * getD w 6 0) (drop (getD w 5 0) bytes) ≡ nameOf key
 
 -- the 64 bits of a signed number: negsuc k is -(k + 1)
 abbrev pub bits64 : ℤ → ℕ

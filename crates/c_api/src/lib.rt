@@ -1,21 +1,27 @@
 // The library for C and Rust: numbers and lent slices in, the answer as numbers in a lent array. include/ntfs_index.h tells it to a C caller.
 ghost use mathlib.Core.Path.{_≡_};
 ghost use Prim.Native.Nat.{_+_, _≤_};
+ghost use Rattle.file_name.specs.Name.{fileNameOf};
 ghost use Rattle.index_node.specs.Memory.{memory};
 ghost use Rattle.index.specs.Walk.{allow};
 ghost use Rattle.index.specs.Step.{newCursor, stepOf};
 ghost use Rattle.index_finder.specs.Find.{lookup};
 ghost use Rattle.checker.specs.Check.{checker};
 ghost use Rattle.c_api.specs.Words.{spanIn, placeSpan, entryWords, refusalWords, noneWords, answerWords, findingWords, checkingWords};
+ghost use Rattle.c_api.specs.Words.{unnamedWords, keyWords, nameWords, entryNameWords};
 ghost use Rattle.c_api.specs.Words.{bits64, nodeWord, vcnWord, nodeFrom, stageWord, dueWord, stageFrom, keptWord, keptFrom};
 ghost use Rattle.c_api.specs.Words.{levelWords, levelFrom, stored, cursorWords, cursorFrom};
 use checker::Checking;
+use file_name::FileName;
+use file_reference::FileReference;
 use index::Answer;
 use index::Cursor;
 use index::Kept;
 use index::Level;
 use index::Stage;
 use index_allocation::Lies;
+use index_entry::EntryAt;
+use index_entry::KeyPart;
 use index_finder::Finding;
 use index_node::Node;
 use index_node::Place;
@@ -23,6 +29,9 @@ use refusal::Refusal;
 
 // Numbers of a cursor: depth, opened, refusal kept, and five for each of 8 levels.
 const WORDS: usize = 43;
+
+// Where the name begins in an entry: after its 16 bytes of header, and 66 of the key.
+const NAME_OFFSET: u64 = 82;
 
 // Where the bytes of an entry lie: in the root, 0, or in the pool, 1; from which byte; how many.
 struct Span {
@@ -132,6 +141,53 @@ fn checking_words(c: Checking) -> [u64; 3]
             let n = refusal.number() as u64;
             [2, n, opened]
         }
+    }
+}
+
+fn unnamed_words(r: Refusal, number: u64, sequence: u64) -> [u64; 7]
+    ensures { λ x. ⌜ x ≡ unnamedWords r number sequence ⌝ }
+{
+    let n = r.number() as u64;
+    [2, n, number, sequence, 0, 0, 0]
+}
+
+fn key_words(key: &[u8], number: u64, sequence: u64) -> [u64; 7]
+    ensures { λ r. ⌜ r ≡ keyWords (fileNameOf (now (key .entry))) number sequence ⌝ }
+{
+    match file_name::read_file_name(key) {
+        FileName::Name { namespace, units } => [
+            1,
+            0,
+            number,
+            sequence,
+            namespace as u64,
+            NAME_OFFSET,
+            units as u64,
+        ],
+        FileName::Refused(r) => unnamed_words(r, number, sequence),
+    }
+}
+
+// Of a whole entry: its reference is told whatever its key.
+fn name_words(entry: &[u8]) -> [u64; 7]
+    ensures { λ r. ⌜ r ≡ nameWords (now (entry .entry)) ⌝ }
+{
+    let reference = FileReference::from_bytes(entry);
+    let number = reference.file_record_number();
+    let sequence = reference.sequence_number() as u64;
+    match index_entry::key(entry) {
+        KeyPart::Absent => [0, 0, number, sequence, 0, 0, 0],
+        KeyPart::Present => key_words(index_entry::key_bytes(entry), number, sequence),
+        KeyPart::Refused(r) => unnamed_words(r, number, sequence),
+    }
+}
+
+fn entry_name_words(bytes: &[u8]) -> [u64; 7]
+    ensures { λ r. ⌜ r ≡ entryNameWords (now (bytes .entry)) ⌝ }
+{
+    match index_entry::entry_at(bytes, 0) {
+        EntryAt::Entry(_) => name_words(index_entry::entry_bytes(bytes, 0)),
+        EntryAt::Refused(r) => unnamed_words(r, 0, 0),
     }
 }
 
@@ -377,5 +433,14 @@ pub extern "C" fn ntfs_check<'a>(
 {
     let c = checker::check(root, pool, cluster, table, marks);
     let w = checking_words(c);
+    *answer = w;
+}
+
+// What the bytes of an entry say of its file reference and its name.
+#[no_mangle]
+pub extern "C" fn ntfs_entry_name(entry: &[u8], answer: &mut [u64; 7])
+    ensures { λ _. ⌜ now (answer .exit) ≡ entryNameWords (now (entry .entry)) ⌝ }
+{
+    let w = entry_name_words(entry);
     *answer = w;
 }

@@ -59,6 +59,7 @@ use Rattle.c_api.proofs.ntfs_new_cursor.Reads as ntfs-new-cursor
 use Rattle.c_api.proofs.ntfs_step.Reads as ntfs-step
 use Rattle.c_api.proofs.ntfs_find.Reads as ntfs-find
 use Rattle.c_api.proofs.ntfs_check.Reads as ntfs-check
+use Rattle.c_api.proofs.ntfs_entry_name.Reads as ntfs-entry-name
 
 -- two that equal one definition are equal
 same : {A : Type 0} {x y d : A} → x ≡ d → y ≡ d → x ≡ y
@@ -258,3 +259,9 @@ one-ntfs-check-marks l a x y s t p q = same (p .0) (q .0)
 
 pub one-ntfs-check-answer : LeavesOne ntfs-check.Post (λ l s. now (s .1 .1 .1 .1 .1 .0))
 one-ntfs-check-answer l a x y s t p q = same (p .1) (q .1)
+
+pub one-ntfs-entry-name : Coincide ntfs-entry-name.Post (λ l x. x)
+one-ntfs-entry-name l a x y s t p q = refl
+
+pub one-entry-name-answer : LeavesOne ntfs-entry-name.Post (λ l s. now (s .1 .0))
+one-entry-name-answer l a x y s t = same
