@@ -76,7 +76,7 @@ enum {
     NTFS_ENTRY_DATA_RANGE = 9,       /* key or VCN ends outside the entry */
     NTFS_SUBNODE_WITHOUT_POOL = 10,  /* subnode wanted, pool empty */
     NTFS_TOO_MANY_LEVELS = 11,       /* subnode wanted at level 8 */
-    NTFS_ALLOWANCE_SPENT = 12,       /* as many records opened as allowed, or more */
+    NTFS_ALLOWANCE_SPENT = 12,       /* allowance spent: as many records opened as allowed, or more */
     NTFS_VCN_NOWHERE = 13,           /* VCN lies nowhere */
     NTFS_SIGNATURE = 14,             /* signature not INDX */
     NTFS_ALLOCATED_SIZE = 15,        /* 24 + allocated size over record size */

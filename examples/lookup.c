@@ -1,0 +1,111 @@
+/* Lists a directory and looks a name up in it.
+
+   usage: lookup CAPTURE TABLE NAME
+   CAPTURE: a directory's root and records, as tools/stick-to-capture writes them. TABLE: the volume's upcase table, two bytes a unit.
+   NAME: in ASCII. Ends with 0 if the name was found, 1 if not, 2 if something was refused. */
+#include <stdio.h>
+#include <stdlib.h>
+#include <string.h>
+
+#include "ntfs_index.h"
+
+enum { UNITS = 65536, LONGEST = 255, ALLOWANCE = 64 };
+
+struct directory {
+    uint8_t root[65536], pool[65536];
+    size_t root_length, pool_length, cluster;
+};
+
+static size_t number(const uint8_t *bytes, int count) {
+    size_t n = 0;
+    while (count-- > 0) n = n * 256 + bytes[count];
+    return n;
+}
+
+static size_t read_file(const char *path, uint8_t *bytes, size_t room) {
+    FILE *file = fopen(path, "rb");
+    if (!file) {
+        perror(path);
+        exit(2);
+    }
+    size_t length = fread(bytes, 1, room, file);
+    fclose(file);
+    return length;
+}
+
+/* A capture's fields: a tag, a length in two bytes, the bytes. 1 is the root, 2 the cluster size, 3 a record. */
+static void read_capture(const char *path, struct directory *d) {
+    static uint8_t capture[65536];
+    size_t length = read_file(path, capture, sizeof capture), at = 0;
+    memset(d, 0, sizeof *d);
+    while (at + 3 <= length) {
+        uint8_t tag = capture[at];
+        size_t size = number(capture + at + 1, 2);
+        at += 3;
+        if (size > length - at) return;
+        if (tag == 1) memcpy(d->root, capture + at, d->root_length = size);
+        if (tag == 2 && size == 4) d->cluster = number(capture + at, 4);
+        if (tag == 3) memcpy(d->pool + d->pool_length, capture + at, size), d->pool_length += size;
+        at += size;
+    }
+}
+
+/* An entry's file reference and its name; a unit that is not ASCII is shown as '?'. */
+static void print_entry(const struct directory *d, const uint64_t *answer) {
+    const uint8_t *entry = (answer[NTFS_HOLDER] == NTFS_ROOT ? d->root : d->pool) + answer[NTFS_OFFSET];
+    uint64_t name[NTFS_NAME_WORDS];
+    ntfs_entry_name(entry, answer[NTFS_SIZE], name);
+    printf("%llu %llu ", (unsigned long long)name[NTFS_RECORD_NUMBER], (unsigned long long)name[NTFS_SEQUENCE]);
+    for (uint64_t i = 0; i < name[NTFS_NAME_UNITS]; i++) {
+        size_t unit = number(entry + name[NTFS_NAME_OFFSET] + 2 * i, 2);
+        putchar(unit >= 32 && unit < 127 ? (int)unit : '?');
+    }
+    putchar('\n');
+}
+
+static int refused(const uint64_t *answer) {
+    printf("refused %llu\n", (unsigned long long)answer[NTFS_REFUSAL]);
+    return 2;
+}
+
+static int list(const struct directory *d) {
+    uint64_t cursor[NTFS_CURSOR_WORDS], answer[NTFS_ANSWER_WORDS];
+    ntfs_new_cursor(cursor);
+    for (;;) {
+        ntfs_step(d->root, d->root_length, d->pool, d->pool_length, d->cluster, ALLOWANCE, cursor, answer);
+        if (answer[NTFS_WHAT] == NTFS_REFUSED) return refused(answer);
+        if (answer[NTFS_WHAT] == NTFS_NONE) return 0;
+        print_entry(d, answer);
+    }
+}
+
+static int find(const struct directory *d, const uint16_t *table, size_t table_length, const char *text) {
+    uint16_t name[LONGEST + 1];
+    size_t length = 0;
+    while (text[length] && length <= LONGEST) name[length] = (unsigned char)text[length], length++;
+    uint64_t answer[NTFS_ANSWER_WORDS];
+    ntfs_find(d->root, d->root_length, d->pool, d->pool_length, d->cluster, table, table_length, name, length, ALLOWANCE, answer);
+    if (answer[NTFS_WHAT] == NTFS_REFUSED) return refused(answer);
+    if (answer[NTFS_WHAT] == NTFS_NONE) {
+        printf("not found\n");
+        return 1;
+    }
+    printf("found ");
+    print_entry(d, answer);
+    return 0;
+}
+
+int main(int count, char **words) {
+    static struct directory d;
+    static uint8_t bytes[2 * UNITS];
+    static uint16_t table[UNITS];
+    if (count != 4) {
+        fprintf(stderr, "usage: %s CAPTURE TABLE NAME\n", words[0]);
+        return 2;
+    }
+    read_capture(words[1], &d);
+    size_t units = read_file(words[2], bytes, sizeof bytes) / 2;
+    for (size_t i = 0; i < units; i++) table[i] = (uint16_t)number(bytes + 2 * i, 2);
+    int status = list(&d);
+    return status ? status : find(&d, table, units, words[3]);
+}
