@@ -1,79 +1,65 @@
-//! Times of the library beside those of plain Rust over the same slices.
+//! Times of the library beside those of plain Rust over the same slices, in nanoseconds an entry or a lookup.
+//! A line each: what, how many, the library's time, plain Rust's. `tests/speed` makes tables of them.
 #[path = "../tests/made/mod.rs"]
 mod made;
+#[path = "../tests/numbers/mod.rs"]
+mod numbers;
 #[path = "../tests/plain/mod.rs"]
 mod plain;
+#[path = "../tests/workload/mod.rs"]
+mod workload;
 
-use made::{directory, table_t, Directory, Sizes};
+use made::{table_t, Directory};
 use ntfs_index::NtfsIndex;
 use std::hint::black_box;
 use std::time::Instant;
+use workload::{rounds, workload, Workload, COUNTS};
 
-const ROUNDS: usize = 15;
-
-/// Least time of a run in nanoseconds; the two are run in turn, so that both meet the same machine.
-fn least(rounds: usize, mut proved: impl FnMut(), mut plain: impl FnMut()) -> (f64, f64) {
-    let mut best = (f64::MAX, f64::MAX);
-    for _ in 0..rounds {
+/// The shortest time of each; they are run in turn, so that both meet the same machine.
+fn compare(what: &str, count: usize, mut proved: impl FnMut(), mut plain: impl FnMut()) {
+    let mut best = [u128::MAX; 2];
+    for _ in 0..rounds(count) {
         let start = Instant::now();
         proved();
         let middle = Instant::now();
         plain();
         let end = Instant::now();
-        best.0 = best.0.min((middle - start).as_nanos() as f64);
-        best.1 = best.1.min((end - middle).as_nanos() as f64);
+        best = [best[0].min((middle - start).as_nanos()), best[1].min((end - middle).as_nanos())];
     }
-    best
-}
-
-fn report(what: &str, count: usize, (proved, plain): (f64, f64)) {
-    let each = |time: f64| time / count as f64;
-    println!("{what}\t{count}\t{:.1}\t{:.1}\t{:.2}", each(proved), each(plain), proved / plain);
-}
-
-fn names(count: usize) -> (Vec<Vec<u16>>, Vec<Vec<u16>>) {
-    let name = |n: usize, end: &str| format!("Profile-{n:05}.{end}").encode_utf16().collect::<Vec<u16>>();
-    ((0..count).map(|n| name(n, "bin")).collect(), (0..count).map(|n| name(n, "bio")).collect())
+    println!("{what}\t{count}\t{:.2}\t{:.2}", best[0] as f64 / count as f64, best[1] as f64 / count as f64);
 }
 
 fn measure(count: usize) {
-    let (there, absent) = names(count);
-    let Directory { root, pool, cluster } = directory(&there, Sizes { record: 4096, cluster: 4096, root: 600, extra: 0 });
+    let Workload { directory: Directory { root, pool, cluster }, there, absent } = workload(count);
     let table = table_t();
-    let proved = NtfsIndex::new(&root, &pool, cluster);
+    let index = NtfsIndex::new(&root, &pool, cluster);
     let plain = plain::Index::new(&root, &pool, cluster);
-    let mut marks = vec![0; pool.len() / 4096];
-    println!("# {count} names, {} records, {:?}", marks.len(), proved.check(&table, &mut marks));
-    for (what, sought) in [("lookup, there", &there), ("lookup, absent", &absent)] {
-        let mut finder = proved.finder(&table, 7);
-        let times = least(
-            ROUNDS,
-            || {
-                sought.iter().for_each(|name| {
-                    black_box(finder.find_units(black_box(name)));
-                })
-            },
-            || sought.iter().for_each(|name| drop(black_box(plain.find(&table, black_box(name), 7)))),
+    let (mut marks, mut other) = (vec![0; pool.len() / 4096], vec![0; pool.len() / 4096]);
+    assert_eq!(index.check(&table, &mut marks), Ok(marks.len() as u64), "the directory passes, all its records reached");
+
+    for (what, sought, found) in [("lookup of names that are there", &there, true), ("lookup of absent names", &absent, false)] {
+        let mut finder = index.finder(&table, 7);
+        compare(
+            what,
+            count,
+            || sought.iter().for_each(|name| assert_eq!(finder.find_units(black_box(name)).is_some(), found)),
+            || sought.iter().for_each(|name| assert_eq!(plain.find(&table, black_box(name), 7).unwrap().0.is_some(), found)),
         );
-        report(what, count, times);
     }
-    let times = least(
-        ROUNDS,
-        || assert_eq!(black_box(proved.entries(u64::MAX)).filter(Result::is_ok).count(), count),
-        || assert_eq!(black_box(plain.entries(u64::MAX)).filter(Result::is_ok).count(), count),
+    compare(
+        "listing",
+        count,
+        || assert_eq!(black_box(index).entries(u64::MAX).filter(Result::is_ok).count(), count),
+        || assert_eq!(black_box(plain).entries(u64::MAX).filter(Result::is_ok).count(), count),
     );
-    report("listing", count, times);
-    let mut other = marks.clone();
-    let times = least(
-        ROUNDS,
-        || drop(black_box(black_box(&proved).check(&table, &mut marks))),
-        || drop(black_box(black_box(&plain).check(&table, &mut other))),
+    compare(
+        "check",
+        count,
+        || assert!(black_box(index).check(&table, &mut marks).is_ok()),
+        || assert!(black_box(plain).check(&table, &mut other).is_ok()),
     );
-    report("check", count, times);
 }
 
 fn main() {
-    for count in [100, 1_000, 10_000] {
-        measure(count);
-    }
+    COUNTS.into_iter().for_each(measure);
 }

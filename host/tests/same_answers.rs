@@ -123,11 +123,15 @@ fn stored_directories() {
     }
 }
 
+fn one_of<T: Copy>(numbers: &mut Numbers, choices: &[T]) -> T {
+    choices[numbers.below(choices.len())]
+}
+
 /// Sorted names without repetition, most of them close to each other.
 fn names(numbers: &mut Numbers, table: &[u16]) -> Vec<Vec<u16>> {
     let units = [0x41, 0x42, 0x61, 0x62, 0x5F, 0x30, 0xE4, 0xC4, 0x3B1, 0xD83D];
-    let most = numbers.of(&[2, 6, 20]);
-    let name = |numbers: &mut Numbers| (0..numbers.below(most) + 1).map(|_| numbers.of(&units)).collect::<Vec<u16>>();
+    let most = one_of(numbers, &[2, 6, 20]);
+    let name = |numbers: &mut Numbers| (0..numbers.below(most) + 1).map(|_| one_of(numbers, &units)).collect::<Vec<u16>>();
     let mut names: Vec<Vec<u16>> = (0..numbers.below(80)).map(|_| name(numbers)).collect();
     let folded = |name: &Vec<u16>| name.iter().map(|unit| table[usize::from(*unit)]).collect::<Vec<u16>>();
     names.sort_by_key(folded);
@@ -137,7 +141,7 @@ fn names(numbers: &mut Numbers, table: &[u16]) -> Vec<Vec<u16>> {
 
 /// Changes a few bytes, most of them where the format keeps its numbers.
 fn damage(numbers: &mut Numbers, d: &mut Directory) {
-    let values = [0, 1, 2, 3, 8, 15, 16, 23, 24, 66, 68, 88, 127, 128, 255];
+    let values = [0, 1, 2, 3, 4, 8, 15, 16, 23, 24, 66, 68, 88, 127, 128, 255];
     for _ in 0..numbers.below(4) {
         let in_pool = !d.pool.is_empty() && numbers.below(3) > 0;
         let held = if in_pool { &mut d.pool } else { &mut d.root };
@@ -145,17 +149,22 @@ fn damage(numbers: &mut Numbers, d: &mut Directory) {
             0 => numbers.below(held.len()),
             1 => numbers.below(64),
             2 => numbers.below(held.len()) / 512 * 512 + numbers.below(64),
-            _ => numbers.below(held.len()) / 8 * 8 + numbers.of(&[0, 1, 2, 3, 4]),
+            _ => numbers.below(held.len()) / 8 * 8 + one_of(numbers, &[0, 1, 2, 3, 4]),
         };
         if let Some(byte) = held.get_mut(place) {
-            *byte = if numbers.below(4) == 0 { numbers.next() as u8 } else { numbers.of(&values) };
+            *byte = if numbers.below(4) == 0 { numbers.next() as u8 } else { one_of(numbers, &values) };
         }
     }
     match numbers.below(40) {
         0 => d.root.truncate(numbers.below(d.root.len() + 1)),
         1 => d.pool.truncate(numbers.below(d.pool.len() + 1)),
         2 => d.pool.clear(),
-        3 => d.cluster = numbers.of(&[0, 1, 256, 512, 1024, 4096, 65_536, 131_072, usize::MAX]),
+        3 => d.cluster = one_of(numbers, &[0, 1, 256, 512, 1024, 4096, 65_536, 131_072, usize::MAX]),
+        // The root's last VCN, most often to a record that is reached before.
+        4 if d.root.len() > 8 => {
+            let at = d.root.len() - 8;
+            d.root[at] = numbers.below(4) as u8;
+        }
         _ => {}
     }
 }
@@ -168,21 +177,21 @@ fn damaged_directories() {
     let mut seen = std::collections::BTreeSet::new();
     for case in 0..cases {
         let numbers = &mut Numbers::new(case);
-        let table = &tables[numbers.of(&[0, 0, 0, 0, 0, 1, 1, 2, 3, 4])];
+        let table = &tables[one_of(numbers, &[0, 0, 0, 0, 0, 1, 1, 2, 3, 4])];
         let sought = names(numbers, &tables[0]);
         let mut d = if numbers.below(4) == 0 {
             stored[numbers.below(stored.len())].1.clone()
         } else {
-            let record = numbers.of(&[512, 1024, 4096]);
-            let extra = numbers.of(&[0, 0, 0, 0, 0, 0, 0, 4, 5, 6, 7, 8]);
-            let sizes = Sizes { record, cluster: numbers.of(&[512, record]), root: numbers.of(&[200, 600, 4096]), extra };
+            let record = one_of(numbers, &[512, 1024, 4096]);
+            let extra = one_of(numbers, &[0, 0, 0, 0, 0, 0, 0, 4, 5, 6, 7, 8]);
+            let sizes = Sizes { record, cluster: one_of(numbers, &[512, record]), root: one_of(numbers, &[200, 600, 4096]), extra };
             directory(&sought, sizes)
         };
         damage(numbers, &mut d);
-        let allowance = numbers.of(&[0, 1, 2, 7, 64, u64::MAX]);
+        let allowance = one_of(numbers, &[0, 1, 2, 7, 64, u64::MAX]);
         seen.insert(("listing", list(&d, allowance).1.unwrap_or(0)));
         let mut marks = all_marks(&d);
-        marks.truncate(numbers.of(&[1000, 1000, 1000, 1000, 1, 0]));
+        marks.truncate(one_of(numbers, &[1000, 1000, 1000, 1000, 1, 0]));
         let checked = check(&d, table, &marks);
         seen.insert(("check", checked));
         let listed = listed_names(&d);

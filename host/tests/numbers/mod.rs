@@ -17,8 +17,4 @@ impl Numbers {
     pub fn below(&mut self, count: usize) -> usize {
         (self.next() >> 33) as usize % count
     }
-
-    pub fn of<T: Copy>(&mut self, choices: &[T]) -> T {
-        choices[self.below(choices.len())]
-    }
 }
