@@ -1,7 +1,7 @@
 -- The promises of captures, from the laws of their crate.
 -- A larger bound is one more, again and again; each one more changes nothing.
-use Prim.Native.Nat.{ℕ, zero, suc, _+_}
-use mathlib.Core.Path.{_≡_, refl, _∙_}
+use Prim.Native.Nat.{zero, suc, _+_}
+use mathlib.Core.Path.{_∙_}
 use native.Mathlib.Nat.{zero-add, suc-add}
 use native.Mathlib.Omega.{arith}
 use lib.ListN.{length}

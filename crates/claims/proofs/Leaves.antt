@@ -1,19 +1,18 @@
 -- The promises of the leaves, each from the laws of its crate.
 -- A number is split at a limb by the laws of digits, over the limb's size.
-use Prim.Native.Nat.{ℕ, _+_, _*_, _/_, _%_, _<_, _≤_}
+use Prim.Native.Nat.{ℕ, _+_, _*_, _/_, _%_, _<_}
 use mathlib.Core.Path.{_≡_}
-use mathlib.Core.List.{List}
 use native.Mathlib.Nat.{add-comm, mul-comm}
 use native.Mathlib.Omega.{arith}
 use borrow.Author.Tests.{le-leb}
 use lib.Arith.{digits-div, digits-mod}
-use lib.ListN.{length, getD}
+use lib.ListN.{length}
 use Rattle.le.specs.Le.{bytesAt, leAt}
 use Rattle.le.proofs.Laws.{join, below}
 use Rattle.upcase_table.proofs.Laws.{names-total}
 use Rattle.file_reference.specs.Reference.{referenceOf}
 use Rattle.index_entry.proofs.Laws.{entered}
-use Rattle.claims.specs.Leaves.{NamesTotal, EntryAsLong, Split, ReferenceSplit}
+use Rattle.claims.specs.Leaves.{NamesTotal, EntryAsLong, ReferenceSplit}
 
 pub names-are-total : NamesTotal
 names-are-total = names-total

@@ -1,6 +1,5 @@
 -- The promises of lookup, from the laws of its crate; what it answers is its contract: any result that it admits is the definition's.
 -- The examples are computed, as those of the bench are.
-use Prim.Native.Nat.{ℕ}
 use mathlib.Core.Path.{_≡_, refl}
 use denote.Ref.{now}
 use mathlib.Core.Option.{none}

@@ -2,7 +2,7 @@
 -- Where a record lies, that one record has one VCN, and what a place names.
 use Rattle.index_allocation.proofs.Laws.{lying, one-vcn}
 use Rattle.index_node.proofs.Laws.{place-is-entry}
-use Rattle.claims.specs.Nodes.{InPool, RecordInPool, OneVcn, PlaceIsEntry}
+use Rattle.claims.specs.Nodes.{RecordInPool, OneVcn, PlaceIsEntry}
 
 pub record-in-pool : RecordInPool
 record-in-pool v cluster size len r e =

@@ -1,7 +1,7 @@
 -- A key read as a file name: at least 66 bytes; name length in units at byte 64; namespace 0 to 3 at 65; name from 66, within the key.
 use Prim.Native.Nat.{ℕ, _+_, _*_}
 use mathlib.Core.List.{List, []}
-use mathlib.Core.Bool.{Bool, true, false, cond}
+use mathlib.Core.Bool.{cond}
 use lib.ListN.{length, getD, take, drop}
 use lib.Dec.{ltb}
 use Rattle.refusal.specs.declared.Refusal.the-variants.{KeyUnreadable}

@@ -13,7 +13,7 @@ use Rattle.refusal.specs.declared.Refusal.{Refusal}
 use Rattle.index_allocation.specs.declared.Block.the-variants as Block
 use Rattle.index_allocation.specs.declared.Lies.the-variants.{Record, Refused}
 use Rattle.index_allocation.specs.Vcn.{blockOf}
-use Rattle.index_allocation.specs.Place.{nowhere, recordIn, recordOfBlock, recordAt}
+use Rattle.index_allocation.specs.Place.{nowhere, recordIn, recordAt}
 
 -- k ≤ n / c: the product is at most n. n / c < k: it is above n
 pub product-within : (k c n : ℕ) → 0 < c → k ≤ n / c → k * c ≤ n

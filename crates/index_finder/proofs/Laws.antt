@@ -2,7 +2,6 @@
 -- What remains to be found in the node is the whole answer; an entry says it, or hands it on.
 use Prim.Native.Nat.{ℕ, zero, suc, _+_, _-_, _<_}
 use mathlib.Core.Path.{_≡_, refl, sym, ap, _∙_}
-use mathlib.Core.List.{List}
 use mathlib.Core.Bool.{Bool, true, false}
 use native.Mathlib.Omega.{arith}
 use borrow.Author.Tests.{leb-false}
@@ -21,8 +20,8 @@ use Rattle.index_node.specs.declared.Viewed.the-variants as Viewed
 use Rattle.index_node.specs.Memory.{Memory, viewBytes}
 use Rattle.index_node.specs.Node.{viewOf}
 use Rattle.index_node.proofs.Laws as nodes
-use Rattle.index.specs.Entries.{Entry, Look, past, bad, met, lookIn, lookView, lookAt, Entries, endOf, rolled, roll, bound, entriesAt}
-use Rattle.index.specs.Walk.{levels, dirOf, Opened, declined, opened, opening, unseen, openedNode, allow}
+use Rattle.index.specs.Entries.{Entry, Look, past, bad, met, lookIn, lookAt, Entries, endOf, rolled, roll, bound, entriesAt}
+use Rattle.index.specs.Walk.{dirOf, opening, unseen, openedNode, allow}
 use Rattle.index.proofs.Chains.{sees, unroll}
 use Rattle.index.proofs.Reading.{shown-node, shown-refusal}
 use Rattle.index_finder.specs.declared.Finding.{Finding}
@@ -30,7 +29,7 @@ use Rattle.index_finder.specs.declared.Finding.the-variants as Finding
 use Rattle.index_finder.specs.declared.Visit.{Visit}
 use Rattle.index_finder.specs.declared.Visit.the-variants as Visit
 use Rattle.index_finder.specs.Kind.{Kind, keyRead}
-use Rattle.index_finder.specs.Find.{findOpened, findOrdered, findSub, findKey, findIn, find, findRoot, finding}
+use Rattle.index_finder.specs.Find.{findOrdered, findSub, findKey, findIn, find, finding}
 use Rattle.index_finder.specs.Visit.{againstOf, below, visitOrdered, visitKey, visitOf}
 
 module _ {K : Type 0} (kind : Kind K) (sought : K) (m : Memory) (spent : ℕ → Bool) where

@@ -7,7 +7,7 @@ use mathlib.Core.List.{List}
 use lib.Dec.{ltb, eqb}
 use lib.IntN.{ℤ}
 use lib.ListN.{length}
-use Rattle.refusal.specs.declared.Refusal.the-variants.{AllowanceSpent, TooManyLevels, TableLength, NameTooLong}
+use Rattle.refusal.specs.declared.Refusal.the-variants.{AllowanceSpent}
 use Rattle.refusal.specs.Part.{Part, absent, refused, present}
 use Rattle.ordering.specs.declared.Ordering.{Ordering}
 use Rattle.ordering.specs.declared.Ordering.the-variants.{Less, Equal, Greater}
@@ -18,11 +18,11 @@ use Rattle.index_node.specs.declared.Viewed.the-variants as Viewed
 use Rattle.index_node.specs.Memory.{Memory}
 use Rattle.index_node.specs.Node.{viewOf}
 use Rattle.index.specs.Entries.{Entry, Entries, over, broken, last, next, entriesAt}
-use Rattle.index.specs.Walk.{levels, Dir, dirOf, Opened, declined, opened, opening, unseen, allow}
+use Rattle.index.specs.Walk.{levels, Dir, dirOf, Opened, declined, opened, allow}
 use Rattle.index.proofs.Openings.{OrSpent, opening-wider, larger}
 use Rattle.index.proofs.Openings as Openings
 use Rattle.index_finder.specs.declared.Finding.{Finding}
-use Rattle.index_finder.specs.declared.Finding.the-variants.{Found, NotFound, Refused}
+use Rattle.index_finder.specs.declared.Finding.the-variants.{Refused}
 use Rattle.index_finder.specs.Kind.{Kind, keyRead, fileNames}
 use Rattle.index_finder.specs.Find.{findOpened, findOrdered, findSub, findKey, findIn, find, findRoot, finding, mostUnits, lookup}
 

@@ -1,8 +1,8 @@
 -- In a tree whose keys never fall, a lookup with allowance enough finds an equal key exactly if the listing holds one.
 -- By induction on the tree: a key that is less or greater shuts out what lies on its other side.
 use mathlib.Core.Path.{_≡_, refl}
-use Prim.Native.Nat.{ℕ, zero, suc, _+_, _<_, _≤_}
-use mathlib.Core.Bool.{Bool, true, false}
+use Prim.Native.Nat.{ℕ, suc, _+_, _<_, _≤_}
+use mathlib.Core.Bool.{Bool, false}
 use mathlib.Core.List.{List, _∷_, _++_, List·Memᴰ, List·Memᴰ·head, List·Memᴰ·tail, Memᴰ·append-left, Memᴰ·append-right}
 use mathlib.Core.Option.{Option, some}
 use native.Mathlib.Omega.{arith}
@@ -12,12 +12,11 @@ use Rattle.refusal.specs.Part.{Part, absent}
 use Rattle.ordering.specs.declared.Ordering.the-variants.{Less, Equal, Greater}
 use Rattle.ordering.specs.Total.{Total}
 use Rattle.index.specs.Entries.{Entry, Entries}
-use Rattle.index.specs.Walk.{Dir, Opened, opened, opening, unseen, never}
+use Rattle.index.specs.Walk.{Dir, opened, opening, unseen, never}
 use Rattle.index.specs.Listing.{Listing, done, andThen, listSub, listIn, list}
 use Rattle.index_finder.specs.declared.Finding.{Finding}
-use Rattle.index_finder.specs.declared.Finding.the-variants.{Found, NotFound}
-use Rattle.index_finder.specs.Kind.{Kind, keyRead}
-use Rattle.index_finder.specs.Find.{findOpened, findOrdered, findSub, findKey, findIn, find}
+use Rattle.index_finder.specs.Kind.{Kind}
+use Rattle.index_finder.specs.Find.{findSub, findIn, find}
 use Rattle.index_finder.specs.Sorted.{NeverFall, Equals, None}
 use Rattle.index_finder.specs.Tree.{Opens, Leads, Tree, out, end, down, leaf, fork, items, keys, Searched, hit, miss, Lists, lists-none, lists-one}
 use Rattle.index_finder.proofs.Sorted.{never-split, none-nil, none-cons, none-append, not-equal-greater, none-after, none-before}

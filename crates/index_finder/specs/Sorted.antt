@@ -1,6 +1,5 @@
 -- Keys that never fall, and entries whose key compares equal: what demand 3 says of the order.
 use mathlib.Core.Path.{_≡_}
-use Prim.Native.Nat.{ℕ}
 use mathlib.Core.List.{List, [], _∷_, List·Memᴰ}
 use mathlib.Core.Option.{Option, some, none}
 use Rattle.refusal.specs.Part.{present}

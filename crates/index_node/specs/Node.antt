@@ -1,5 +1,5 @@
 -- A node as a value: the root under 1 to 7, a record under 13 to 17; and its next entry at a position.
-use Prim.Native.Nat.{ℕ, _+_, _*_}
+use Prim.Native.Nat.{ℕ, _*_}
 use mathlib.Core.List.{List}
 use mathlib.Core.Bool.{cond}
 use lib.Dec.{ltb}

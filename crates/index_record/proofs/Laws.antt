@@ -1,6 +1,5 @@
 -- Two signed numbers of 64 bits are the same exactly if their bits are.
 -- The code compares the bits, the definition the numbers.
-use Prim.Native.Nat.{ℕ}
 use mathlib.Core.Path.{_≡_, refl, sym, ap, _∙_}
 use mathlib.Core.Bool.{true, false}
 use borrow.Author.Tests.{eq-eqb, ne-eqb, eqb-true, eqb-false}

@@ -1,6 +1,6 @@
 -- What a root that passes satisfies: no test refused. An allowed size is not 0, so that a pool can be divided by it.
 -- Callers that are told of a root cite `rooted`, and never look into the definition.
-use Prim.Native.Nat.{ℕ, _%_, _<_, _≤_}
+use Prim.Native.Nat.{ℕ, _<_, _≤_}
 use mathlib.Core.Path.{_≡_}
 use mathlib.Core.List.{List}
 use mathlib.Core.Bool.{true, false}

@@ -1,7 +1,7 @@
 -- The sizes and the pool's length: 5, then, where the pool is not empty, 6 and 7.
 use Prim.Native.Nat.{ℕ, _%_}
 use mathlib.Core.List.{List, [], _∷_}
-use mathlib.Core.Bool.{Bool, true, false, cond, _&&_, _||_}
+use mathlib.Core.Bool.{Bool, false, cond, _&&_, _||_}
 use lib.Dec.{leb, eqb}
 use Rattle.refusal.specs.declared.Refusal.the-variants.{LargeWithoutPool, SizeNotAllowed, PoolNotWholeRecords}
 use Rattle.index_root.specs.declared.IndexRoot.{IndexRoot}

@@ -1,10 +1,9 @@
 -- A turn of the comparison, over plain lists of units: the first units decide, or the rest does.
 -- The code counts up where the definition goes down its lists; `drop` connects the two.
 use Prim.Native.Nat.{ℕ, zero, suc, _+_, _*_, _/_, _≤_, _<_, min}
-use mathlib.Core.Path.{_≡_, refl, sym, ap, _∙_}
+use mathlib.Core.Path.{_≡_, refl, sym, _∙_}
 use mathlib.Core.List.{List, [], _∷_}
 use mathlib.Core.Bool.{true, false}
-use native.Mathlib.Nat.{zero-add}
 use native.Mathlib.Numerals.{add-one}
 use native.Mathlib.Omega.{arith}
 use borrow.Author.Tests.{ltb-true, ltb-false, eq-eqb, ne-eqb, eqb-true, eqb-false}
@@ -12,7 +11,6 @@ use lib.Dec.{ltb, eqb}
 use lib.ListN.{length, getD, drop, drop-of-length-le}
 use lib.Seq.{drop-cons}
 use Rattle.ordering.specs.declared.Ordering.{Ordering}
-use Rattle.ordering.specs.declared.Ordering.the-variants.{Less, Equal, Greater}
 use Rattle.ordering.specs.Order.{order, orElse, lexical}
 use Rattle.ordering.specs.Total.{Total}
 use Rattle.logic.proofs.Cases.{it, look}

@@ -15,7 +15,9 @@ finding-words-requires : tie.Need-finding-words-requires
 finding-words-requires c κs = search needs
 
 returns : tie.Need-returns
-returns c = c .finding-words .ensures ∙ ap (findingWords (memory (now (c .before .before .before .before .before .before .args .root)) (now (c .before .before .before .before .before .before .args .pool)) (c .before .before .before .before .before .before .args .cluster))) (c .before .find .ensures)
+returns c =
+    let a = c .before .before .before .before .before .before .args in
+    c .finding-words .ensures ∙ ap (findingWords (memory (now (a .root)) (now (a .pool)) (a .cluster))) (c .before .find .ensures)
 
 pub ntfs-find-spec : {M : Type 1} → statement M
 ntfs-find-spec = tie.close (tie.spec find-requires finding-words-requires returns)

@@ -17,8 +17,10 @@ use Rattle.c_api.proofs.place_span.Tie as tie
 
 -- the record's number, as the definition finds it
 found : (c : tie.After-known-told2)
-    → recordAt (c .before .before .before .before .before .before .node .given .0 .0) (c .before .before .before .before .before .before .before .before .before .before .args .cluster)
-    (c .before .before .before .before .index-record-size .result) (length (now (c .before .before .before .before .before .before .before .before .before .before .args .pool)))
+    → recordAt (c .before .before .before .before .before .before .node .given .0 .0)
+    (c .before .before .before .before .before .before .before .before .before .before .args .cluster)
+    (c .before .before .before .before .index-record-size .result)
+    (length (now (c .before .before .before .before .before .before .before .before .before .before .args .pool)))
     ≡ Lies.Record (c .before .number .given .0 .0)
 found c =
     let e = rw (toZ-ofZ {w = w64} {z = c .before .before .before .before .before .before .node .given .0 .0} (search needs)) at
@@ -27,7 +29,8 @@ found c =
 
 -- it lies whole in the pool
 whole : (c : tie.After-known-told2)
-    → c .before .number .given .0 .0 * c .before .before .before .before .index-record-size .result + c .before .before .before .before .index-record-size .result
+    → c .before .number .given .0 .0 * c .before .before .before .before .index-record-size .result +
+    c .before .before .before .before .index-record-size .result
     ≤ length (now (c .before .before .before .before .before .before .before .before .before .before .args .pool))
 whole c = lying _ _ _ _ _ (found c) .whole
 

@@ -28,13 +28,20 @@ compare-name-requires : tie.Need-compare-name-requires
 compare-name-requires c κs = search needs
 
 returns : tie.Need-returns
-returns c = key-absent (fileNames (now (c .before .before .before .before .before .before .args .table))) (now (c .before .before .before .before .before .before .args .name)) (keyOf (now (c .before .before .before .before .before .before .args .entry))) (sym (c .before .before .key .ensures) ∙ c .enum-told .given .1)
+returns c =
+    let a = c .before .before .before .before .before .before .args in
+    key-absent (fileNames (now (a .table))) (now (a .name)) (keyOf (now (a .entry))) (sym (c .before .before .key .ensures) ∙ c .enum-told .given .1)
 
 returns-2 : tie.Need-returns-2
-returns-2 c = key-refused (fileNames (now (c .before .before .before .before .before .before .before .args .table))) (now (c .before .before .before .before .before .before .before .args .name)) (keyOf (now (c .before .before .before .before .before .before .before .args .entry))) _ (sym (c .before .before .before .key .ensures) ∙ c .before .r .given .1)
+returns-2 c =
+    let a = c .before .before .before .before .before .before .before .args in
+    key-refused (fileNames (now (a .table))) (now (a .name)) (keyOf (now (a .entry))) _ (sym (c .before .before .before .key .ensures) ∙ c .before .r .given .1)
 
 returns-3 : tie.Need-returns-3
-returns-3 c = rw (← key-present (keyOf (now (c .before .before .before .before .before .before .before .before .args .entry))) (sym (c .before .before .before .before .key .ensures) ∙ c .before .before .enum-told2 .given .1)) (rw (c .before .key-bytes .ensures) at (c .compare-name .ensures))
+returns-3 c =
+    let a = c .before .before .before .before .before .before .before .before .args in
+    rw (← key-present (keyOf (now (a .entry))) (sym (c .before .before .before .before .key .ensures) ∙ c .before .before .enum-told2 .given .1))
+    (rw (c .before .key-bytes .ensures) at (c .compare-name .ensures))
 
 pub compare-key-spec : {M : Type 1} → statement M
 compare-key-spec =

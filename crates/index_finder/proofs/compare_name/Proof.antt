@@ -34,15 +34,21 @@ returns : tie.Need-returns
 returns c = rw (← c .before .before .read-file-name .ensures, c .enum-told .given .1)
 
 returns-2 : tie.Need-returns-2
-returns-2 c = rw (
-  ← c .before .before .before .before .before .before .before .read-file-name .ensures,
-  c .before .before .before .before .before .enum-told2 .given .1,
-  order-told (now (c .before .before .before .before .before .before .before .before .before .before .before .args .table)) (now (c .before .before .before .before .before .before .before .before .before .before .before .args .name)) (unitsOf (nameOf (now (c .before .before .before .before .before .before .before .before .before .before .before .args .key)))) (c .before .before .before .before .before .before .before .before .before .before .before .pre) (c .before .o .given .0 .0)
-      (sym (rw (c .before .before .before .before .name .ensures) at (c .before .before .before .upcase-cmp .ensures)) ∙ c .before .o .given .1),
-)
+returns-2 c =
+    let a = c .before .before .before .before .before .before .before .before .before .before .before .args in
+    rw (
+      ← c .before .before .before .before .before .before .before .read-file-name .ensures,
+      c .before .before .before .before .before .enum-told2 .given .1,
+      order-told (now (a .table)) (now (a .name)) (unitsOf (nameOf (now (a .key))))
+          (c .before .before .before .before .before .before .before .before .before .before .before .pre) (c .before .o .given .0 .0)
+          (sym (rw (c .before .before .before .before .name .ensures) at (c .before .before .before .upcase-cmp .ensures)) ∙ c .before .o .given .1),
+    )
 
 returns-3 : tie.Need-returns-3
-returns-3 c = absurd (order-given (now (c .before .before .before .before .before .before .before .before .before .before .before .args .table)) (now (c .before .before .before .before .before .before .before .before .before .before .before .args .name)) (unitsOf (nameOf (now (c .before .before .before .before .before .before .before .before .before .before .before .args .key)))) (c .before .before .before .before .before .before .before .before .before .before .before .pre) (c .before .r .given .0 .0)
+returns-3 c =
+    let a = c .before .before .before .before .before .before .before .before .before .before .before .args in
+    absurd (order-given (now (a .table)) (now (a .name)) (unitsOf (nameOf (now (a .key))))
+    (c .before .before .before .before .before .before .before .before .before .before .before .pre) (c .before .r .given .0 .0)
     (sym (rw (c .before .before .before .before .name .ensures) at (c .before .before .before .upcase-cmp .ensures)) ∙ c .before .r .given .1))
 
 pub compare-name-spec : {M : Type 1} → statement M

@@ -31,7 +31,10 @@ abbrev μ-descend : tie.MeasureT-descend
 μ-descend root pool cluster table name allowance node₀ left₀ opened₀ node left opened = left
 
 descend-holds : tie.Need-descend-holds Inv-loop μ-loop Inv-descend μ-descend
-descend-holds c = starts (fileNames (now (c .before .before .before .before .args .table))) (now (c .before .before .before .before .args .name)) (memory (now (c .before .before .before .before .args .root)) (now (c .before .before .before .before .args .pool)) (c .before .before .before .before .args .cluster)) (allow (c .before .before .before .before .args .allowance)) (c .before .before .before .before .args .view) (c .before .before .before .before .pre .1)
+descend-holds c =
+    let a = c .before .before .before .before .args in
+    starts (fileNames (now (a .table))) (now (a .name)) (memory (now (a .root)) (now (a .pool)) (a .cluster)) (allow (a .allowance)) (a .view)
+    (c .before .before .before .before .pre .1)
 
 node-bytes-requires : tie.Need-node-bytes-requires Inv-loop μ-loop Inv-descend μ-descend
 node-bytes-requires c κs = search needs
@@ -55,8 +58,12 @@ loop-less c =
 
 loop-again : tie.Need-loop-again Inv-loop μ-loop Inv-descend μ-descend
 loop-again c =
-    let h = sym (c .before .next .given .1) ∙ rw (c .before .before .before .before .loop .inv .1) at (c .before .before .before .visit-entry .ensures) in
-    (c .before .before .before .before .loop .inv .0, c .before .before .before .before .loop .inv .1, onward (c .before .before .before .before .loop .inv .2) (c .before .next .given .0 .0) h)
+    let h = sym (c .before .next .given .1) ∙ rw (c .before .before .before .before .loop .inv .1) at (c .before .before .before .visit-entry .ensures) in (
+      c .before .before .before .before .loop .inv .0,
+      c .before .before .before .before .loop .inv .1,
+      onward
+          (c .before .before .before .before .loop .inv .2) (c .before .next .given .0 .0) h,
+    )
 
 enum-told : tie.Need-enum-told Inv-loop μ-loop Inv-descend μ-descend
 enum-told c = search needs
@@ -78,23 +85,45 @@ enum-known-below c = search needs
 
 sub-left : tie.Need-sub-left Inv-loop μ-loop Inv-descend μ-descend
 sub-left c =
-    let e = sym (rw (toZ-ofZ {w = w64} {z = c .before .before .before .before .before .vcn .given .0 .0} (search needs)) at (c .before .before .before .open-record .ensures)) ∙ c .before .below .given .1 in
-    let r = room (memory (now (c .before .before .before .before .before .before .before .before .before .before .before .before .before .before .before .args .root)) (now (c .before .before .before .before .before .before .before .before .before .before .before .before .before .before .before .args .pool)) (c .before .before .before .before .before .before .before .before .before .before .before .before .before .before .before .args .cluster)) (c .before .before .before .before .before .before .before .before .loop .left) (c .before .before .before .before .before .before .before .before .before .before .before .before .before .before .before .args .allowance) (c .before .before .before .before .before .before .before .before .loop .opened) (c .before .before .before .before .before .vcn .given .0 .0) (c .before .below .given .0 .0) e in omega (arith, r .0)
+    let a = c .before .before .before .before .before .before .before .before .before .before .before .before .before .before .before .args in
+    let e = sym (rw (toZ-ofZ {w = w64} {z = c .before .before .before .before .before .vcn .given .0 .0} (search needs)) at
+    (c .before .before .before .open-record .ensures)) ∙ c .before .below .given .1 in
+    let r = room (memory (now (a .root)) (now (a .pool)) (a .cluster))
+    (c .before .before .before .before .before .before .before .before .loop .left) (a .allowance)
+    (c .before .before .before .before .before .before .before .before .loop .opened) (c .before .before .before .before .before .vcn .given .0 .0)
+    (c .before .below .given .0 .0) e in omega (arith, r .0)
 
 add-opened : tie.Need-add-opened Inv-loop μ-loop Inv-descend μ-descend
 add-opened c =
-    let e = sym (rw (toZ-ofZ {w = w64} {z = c .before .before .before .before .before .vcn .given .0 .0} (search needs)) at (c .before .before .before .open-record .ensures)) ∙ c .before .below .given .1 in
-    let r = room (memory (now (c .before .before .before .before .before .before .before .before .before .before .before .before .before .before .before .args .root)) (now (c .before .before .before .before .before .before .before .before .before .before .before .before .before .before .before .args .pool)) (c .before .before .before .before .before .before .before .before .before .before .before .before .before .before .before .args .cluster)) (c .before .before .before .before .before .before .before .before .loop .left) (c .before .before .before .before .before .before .before .before .before .before .before .before .before .before .before .args .allowance) (c .before .before .before .before .before .before .before .before .loop .opened) (c .before .before .before .before .before .vcn .given .0 .0) (c .before .below .given .0 .0) e in omega (arith, r .1, c .before .before .before .before .before .before .before .before .before .before .before .before .before .before .before .fits .allowance)
+    let a = c .before .before .before .before .before .before .before .before .before .before .before .before .before .before .before .args in
+    let e = sym (rw (toZ-ofZ {w = w64} {z = c .before .before .before .before .before .vcn .given .0 .0} (search needs)) at
+    (c .before .before .before .open-record .ensures)) ∙ c .before .below .given .1 in
+    let r = room (memory (now (a .root)) (now (a .pool)) (a .cluster))
+    (c .before .before .before .before .before .before .before .before .loop .left) (a .allowance)
+    (c .before .before .before .before .before .before .before .before .loop .opened) (c .before .before .before .before .before .vcn .given .0 .0)
+    (c .before .below .given .0 .0) e in omega (
+      arith,
+      r .1,
+      c .before .before .before .before .before .before .before .before .before .before .before .before .before .before .before .fits .allowance,
+    )
 
 descend-less : tie.Need-descend-less Inv-loop μ-loop Inv-descend μ-descend
 descend-less c =
-    let e = sym (rw (toZ-ofZ {w = w64} {z = c .before .before .before .before .before .vcn .given .0 .0} (search needs)) at (c .before .before .before .open-record .ensures)) ∙ c .before .below .given .1 in
-    let r = room (memory (now (c .before .before .before .before .before .before .before .before .before .before .before .before .before .before .before .args .root)) (now (c .before .before .before .before .before .before .before .before .before .before .before .before .before .before .before .args .pool)) (c .before .before .before .before .before .before .before .before .before .before .before .before .before .before .before .args .cluster)) (c .before .before .before .before .before .before .before .before .loop .left) (c .before .before .before .before .before .before .before .before .before .before .before .before .before .before .before .args .allowance) (c .before .before .before .before .before .before .before .before .loop .opened) (c .before .before .before .before .before .vcn .given .0 .0) (c .before .below .given .0 .0) e in omega (arith, r .0, c .before .before .before .before .before .before .before .before .loop .inv .0)
+    let a = c .before .before .before .before .before .before .before .before .before .before .before .before .before .before .before .args in
+    let e = sym (rw (toZ-ofZ {w = w64} {z = c .before .before .before .before .before .vcn .given .0 .0} (search needs)) at
+    (c .before .before .before .open-record .ensures)) ∙ c .before .below .given .1 in
+    let r = room (memory (now (a .root)) (now (a .pool)) (a .cluster))
+    (c .before .before .before .before .before .before .before .before .loop .left) (a .allowance)
+    (c .before .before .before .before .before .before .before .before .loop .opened) (c .before .before .before .before .before .vcn .given .0 .0)
+    (c .before .below .given .0 .0) e in omega (arith, r .0, c .before .before .before .before .before .before .before .before .loop .inv .0)
 
 descend-again : tie.Need-descend-again Inv-loop μ-loop Inv-descend μ-descend
 descend-again c =
-    let h = sym (c .before .before .before .before .before .vcn .given .1) ∙ rw (c .before .before .before .before .before .before .before .before .loop .inv .1) at (c .before .before .before .before .before .before .before .visit-entry .ensures) in
-    let e = sym (rw (toZ-ofZ {w = w64} {z = c .before .before .before .before .before .vcn .given .0 .0} (search needs)) at (c .before .before .before .open-record .ensures)) ∙ c .before .below .given .1 in
+    let h = sym (c .before .before .before .before .before .vcn .given .1) ∙ rw
+    (c .before .before .before .before .before .before .before .before .loop .inv .1) at
+    (c .before .before .before .before .before .before .before .visit-entry .ensures) in
+    let e = sym (rw (toZ-ofZ {w = w64} {z = c .before .before .before .before .before .vcn .given .0 .0} (search needs)) at
+    (c .before .before .before .open-record .ensures)) ∙ c .before .below .given .1 in
     enters (c .before .before .before .before .before .before .before .before .loop .inv .2) (c .before .before .before .before .before .vcn .given .0 .0) h _ e
 
 returns : tie.Need-returns Inv-loop μ-loop Inv-descend μ-descend
@@ -114,8 +143,11 @@ returns-3 c =
 
 returns-4 : tie.Need-returns-4 Inv-loop μ-loop Inv-descend μ-descend
 returns-4 c =
-    let h = sym (c .before .before .before .before .before .vcn .given .1) ∙ rw (c .before .before .before .before .before .before .before .before .loop .inv .1) at (c .before .before .before .before .before .before .before .visit-entry .ensures) in
-    let e = sym (rw (toZ-ofZ {w = w64} {z = c .before .before .before .before .before .vcn .given .0 .0} (search needs)) at (c .before .before .before .open-record .ensures)) ∙ c .before .refusal2 .given .1 in
+    let h = sym (c .before .before .before .before .before .vcn .given .1) ∙ rw
+    (c .before .before .before .before .before .before .before .before .loop .inv .1) at
+    (c .before .before .before .before .before .before .before .visit-entry .ensures) in
+    let e = sym (rw (toZ-ofZ {w = w64} {z = c .before .before .before .before .before .vcn .given .0 .0} (search needs)) at
+    (c .before .before .before .open-record .ensures)) ∙ c .before .refusal2 .given .1 in
     stuck (c .before .before .before .before .before .before .before .before .loop .inv .2) (c .before .before .before .before .before .vcn .given .0 .0) h _ e
 
 pub descend-spec : {M : Type 1} → statement M

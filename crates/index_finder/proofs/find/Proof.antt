@@ -29,11 +29,19 @@ descend-requires c κs = (c .before .before .before .before .before .if1 .left, 
 
 returns-3 : tie.Need-returns-3
 unfolding lookup finding
-returns-3 c = rw (eq-eqb _ _ (c .before .before .before .before .before .if1 .left), le-ltb _ _ (c .before .before .before .before .if2 .left), ← c .before .before .before .open-node .ensures, c .before .refusal .given .1)
+returns-3 c =
+    rw (
+      eq-eqb _ _ (c .before .before .before .before .before .if1 .left),
+      le-ltb _ _ (c .before .before .before .before .if2 .left),
+      ← c .before .before .before .open-node .ensures,
+      c .before .refusal .given .1,
+    )
 
 returns-4 : tie.Need-returns-4
 unfolding lookup finding
-returns-4 c = rw (eq-eqb _ _ (c .before .before .before .before .before .before .if1 .left), le-ltb _ _ (c .before .before .before .before .before .if2 .left)) (c .descend .ensures)
+returns-4 c =
+    rw (eq-eqb _ _ (c .before .before .before .before .before .before .if1 .left), le-ltb _ _ (c .before .before .before .before .before .if2 .left))
+    (c .descend .ensures)
 
 pub find-spec : {M : Type 1} → statement M
 find-spec =

@@ -24,7 +24,9 @@ entry-bytes-requires c κs = search needs
 
 add-next : tie.Need-add-next
 add-next c =
-    let w = read-within (now (c .before .before .before .before .before .before .before .before .before .args .bytes)) (c .before .before .before .before .before .before .before .before .before .args .view) (c .before .before .before .before .before .before .before .before .before .args .at) (c .before .before .before .place .given .0 .0) (sym (c .before .before .before .before .before .next-entry .ensures) ∙ c .before .before .before .place .given .1) in
+    let a = c .before .before .before .before .before .before .before .before .before .args in
+    let w = read-within (now (a .bytes)) (a .view) (a .at) (c .before .before .before .place .given .0 .0)
+    (sym (c .before .before .before .before .before .next-entry .ensures) ∙ c .before .before .before .place .given .1) in
     search needs
 
 go-below-requires : tie.Need-go-below-requires
@@ -52,45 +54,70 @@ enum-told-5 : tie.Need-enum-told-5
 enum-told-5 c = search needs
 
 returns : tie.Need-returns
-returns c = rw (look-over (now (c .before .before .before .before .before .before .args .bytes)) (c .before .before .before .before .before .before .args .view) (c .before .before .before .before .before .before .args .at) (sym (c .before .before .next-entry .ensures) ∙ c .enum-told .given .1))
+returns c =
+    let a = c .before .before .before .before .before .before .args in
+    rw (look-over (now (a .bytes)) (a .view) (a .at) (sym (c .before .before .next-entry .ensures) ∙ c .enum-told .given .1))
 
 returns-2 : tie.Need-returns-2
-returns-2 c = rw (look-refused (now (c .before .before .before .before .before .before .before .args .bytes)) (c .before .before .before .before .before .before .before .args .view) (c .before .before .before .before .before .before .before .args .at) (c .before .r .given .0 .0) (sym (c .before .before .before .next-entry .ensures) ∙ c .before .r .given .1))
+returns-2 c =
+    let a = c .before .before .before .before .before .before .before .args in
+    rw (look-refused (now (a .bytes)) (a .view) (a .at) (c .before .r .given .0 .0)
+    (sym (c .before .before .before .next-entry .ensures) ∙ c .before .r .given .1))
 
 returns-3 : tie.Need-returns-3
 returns-3 c =
-    let told = sym (c .before .before .before .before .before .before .before .before .before .before .next-entry .ensures) ∙ c .before .before .before .before .before .before .before .before .place .given .1 in
-    let e = look-entry (now (c .before .before .before .before .before .before .before .before .before .before .before .before .before .before .args .bytes)) (c .before .before .before .before .before .before .before .before .before .before .before .before .before .before .args .view) (c .before .before .before .before .before .before .before .before .before .before .before .before .before .before .args .at) (c .before .before .before .before .before .before .before .before .place .given .0 .0) told in
+    let a = c .before .before .before .before .before .before .before .before .before .before .before .before .before .before .args in
+    let told = sym (c .before .before .before .before .before .before .before .before .before .before .next-entry .ensures) ∙
+    c .before .before .before .before .before .before .before .before .place .given .1 in
+    let e = look-entry (now (a .bytes)) (a .view) (a .at) (c .before .before .before .before .before .before .before .before .place .given .0 .0) told in
     let k = rw (c .before .before .before .before .before .before .entry-bytes .ensures) at (c .before .before .before .compare-key .ensures) in
     rw (e, ← k, c .before .r2 .given .1)
 
 returns-4 : tie.Need-returns-4
 returns-4 c =
-    let told = sym (c .before .before .before .before .before .before .before .before .before .next-entry .ensures) ∙ c .before .before .before .before .before .before .before .place .given .1 in
-    let e = look-entry (now (c .before .before .before .before .before .before .before .before .before .before .before .before .before .args .bytes)) (c .before .before .before .before .before .before .before .before .before .before .before .before .before .args .view) (c .before .before .before .before .before .before .before .before .before .before .before .before .before .args .at) (c .before .before .before .before .before .before .before .place .given .0 .0) told in
+    let a = c .before .before .before .before .before .before .before .before .before .before .before .before .before .args in
+    let told = sym (c .before .before .before .before .before .before .before .before .before .next-entry .ensures) ∙
+    c .before .before .before .before .before .before .before .place .given .1 in
+    let e = look-entry (now (a .bytes)) (a .view) (a .at) (c .before .before .before .before .before .before .before .place .given .0 .0) told in
     let k = rw (c .before .before .before .before .before .entry-bytes .ensures) at (c .before .before .compare-key .ensures) in
-    rw (e, ← k, c .enum-told2 .given .1) (rw (c .before .before .before .before .before .entry-bytes .ensures) at (c .before .before .before .go-below .ensures))
+    rw (e, ← k, c .enum-told2 .given .1) (rw (c .before .before .before .before .before .entry-bytes .ensures) at
+    (c .before .before .before .go-below .ensures))
 
 returns-5 : tie.Need-returns-5
 returns-5 c =
-    let told = sym (c .before .before .before .before .before .before .before .before .before .before .before .before .next-entry .ensures) ∙ c .before .before .before .before .before .before .before .before .before .before .place .given .1 in
-    let e = look-entry (now (c .before .before .before .before .before .before .before .before .before .before .before .before .before .before .before .before .args .bytes)) (c .before .before .before .before .before .before .before .before .before .before .before .before .before .before .before .before .args .view) (c .before .before .before .before .before .before .before .before .before .before .before .before .before .before .before .before .args .at) (c .before .before .before .before .before .before .before .before .before .before .place .given .0 .0) told in
-    let k = rw (c .before .before .before .before .before .before .before .before .entry-bytes .ensures) at (c .before .before .before .before .before .compare-key .ensures) in
-    rw (e, ← k, c .before .before .before .order .given .1, c .enum-told3 .given .1) (rw (c .before .before .before .before .before .before .before .before .entry-bytes .ensures) at (c .before .before .before .before .before .before .go-below .ensures))
+    let a = c .before .before .before .before .before .before .before .before .before .before .before .before .before .before .before .before .args in
+    let told = sym (c .before .before .before .before .before .before .before .before .before .before .before .before .next-entry .ensures) ∙
+    c .before .before .before .before .before .before .before .before .before .before .place .given .1 in
+    let e = look-entry (now (a .bytes)) (a .view) (a .at)
+    (c .before .before .before .before .before .before .before .before .before .before .place .given .0 .0) told in
+    let k = rw (c .before .before .before .before .before .before .before .before .entry-bytes .ensures) at
+    (c .before .before .before .before .before .compare-key .ensures) in
+    rw (e, ← k, c .before .before .before .order .given .1, c .enum-told3 .given .1)
+    (rw (c .before .before .before .before .before .before .before .before .entry-bytes .ensures) at
+    (c .before .before .before .before .before .before .go-below .ensures))
 
 returns-6 : tie.Need-returns-6
 returns-6 c =
-    let told = sym (c .before .before .before .before .before .before .before .before .before .before .before .before .next-entry .ensures) ∙ c .before .before .before .before .before .before .before .before .before .before .place .given .1 in
-    let e = look-entry (now (c .before .before .before .before .before .before .before .before .before .before .before .before .before .before .before .before .args .bytes)) (c .before .before .before .before .before .before .before .before .before .before .before .before .before .before .before .before .args .view) (c .before .before .before .before .before .before .before .before .before .before .before .before .before .before .before .before .args .at) (c .before .before .before .before .before .before .before .before .before .before .place .given .0 .0) told in
-    let k = rw (c .before .before .before .before .before .before .before .before .entry-bytes .ensures) at (c .before .before .before .before .before .compare-key .ensures) in
+    let a = c .before .before .before .before .before .before .before .before .before .before .before .before .before .before .before .before .args in
+    let told = sym (c .before .before .before .before .before .before .before .before .before .before .before .before .next-entry .ensures) ∙
+    c .before .before .before .before .before .before .before .before .before .before .place .given .1 in
+    let e = look-entry (now (a .bytes)) (a .view) (a .at)
+    (c .before .before .before .before .before .before .before .before .before .before .place .given .0 .0) told in
+    let k = rw (c .before .before .before .before .before .before .before .before .entry-bytes .ensures) at
+    (c .before .before .before .before .before .compare-key .ensures) in
     rw (e, ← k, c .before .before .before .order .given .1, c .enum-told4 .given .1)
 
 returns-7 : tie.Need-returns-7
 returns-7 c =
-    let told = sym (c .before .before .before .before .before .before .before .before .before .before .before .before .next-entry .ensures) ∙ c .before .before .before .before .before .before .before .before .before .before .place .given .1 in
-    let e = look-entry (now (c .before .before .before .before .before .before .before .before .before .before .before .before .before .before .before .before .args .bytes)) (c .before .before .before .before .before .before .before .before .before .before .before .before .before .before .before .before .args .view) (c .before .before .before .before .before .before .before .before .before .before .before .before .before .before .before .before .args .at) (c .before .before .before .before .before .before .before .before .before .before .place .given .0 .0) told in
-    let k = rw (c .before .before .before .before .before .before .before .before .entry-bytes .ensures) at (c .before .before .before .before .before .compare-key .ensures) in
-    let w = read-within (now (c .before .before .before .before .before .before .before .before .before .before .before .before .before .before .before .before .args .bytes)) (c .before .before .before .before .before .before .before .before .before .before .before .before .before .before .before .before .args .view) (c .before .before .before .before .before .before .before .before .before .before .before .before .before .before .before .before .args .at) (c .before .before .before .before .before .before .before .before .before .before .place .given .0 .0) told in
+    let a = c .before .before .before .before .before .before .before .before .before .before .before .before .before .before .before .before .args in
+    let told = sym (c .before .before .before .before .before .before .before .before .before .before .before .before .next-entry .ensures) ∙
+    c .before .before .before .before .before .before .before .before .before .before .place .given .1 in
+    let e = look-entry (now (a .bytes)) (a .view) (a .at)
+    (c .before .before .before .before .before .before .before .before .before .before .place .given .0 .0) told in
+    let k = rw (c .before .before .before .before .before .before .before .before .entry-bytes .ensures) at
+    (c .before .before .before .before .before .compare-key .ensures) in
+    let w = read-within (now (a .bytes)) (a .view) (a .at)
+    (c .before .before .before .before .before .before .before .before .before .before .place .given .0 .0) told in
     rw (e, ← k, c .before .before .before .order .given .1, c .enum-told5 .given .1, w .0)
 
 pub visit-entry-spec : {M : Type 1} → statement M

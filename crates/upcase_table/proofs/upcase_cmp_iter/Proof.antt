@@ -52,7 +52,8 @@ compare-units-requires c κs = search needs
 returns : tie.Need-returns Inv-loop μ-loop
 returns c =
     c .compare-units .ensures
-    ∙ (rw (c .before .before .before .unit-at .ensures) (differed (c .before .before .before .before .before .before .loop .inv) (c .before .before .before .before .before .loop-test .taken)
+    ∙ (rw (c .before .before .before .unit-at .ensures)
+    (differed (c .before .before .before .before .before .before .loop .inv) (c .before .before .before .before .before .loop-test .taken)
     (rw (c .before .before .before .unit-at .ensures) at (sym (c .before .before .agree .ensures) ∙ c .before .if1 .left))))
 
 compare-requires : tie.Need-compare-requires Inv-loop μ-loop
@@ -60,8 +61,9 @@ compare-requires c κs = search needs
 
 returns-2 : tie.Need-returns-2 Inv-loop μ-loop
 returns-2 c =
+    let a = c .before .before .before .before .before .before .before .args in
     c .compare .ensures
-    ∙ (rw (units-length (now (c .before .before .before .before .before .before .before .args .other))) at (lengths (c .before .before .loop .inv) (c .before .loop-test .left)))
+    ∙ (rw (units-length (now (a .other))) at (lengths (c .before .before .loop .inv) (c .before .loop-test .left)))
 
 pub upcase-cmp-iter-spec : {M : Type 1} → statement M
 upcase-cmp-iter-spec =

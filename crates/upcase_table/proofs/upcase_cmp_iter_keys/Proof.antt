@@ -21,7 +21,8 @@ least-requires c κs = search needs
 
 loop-holds : tie.Need-loop-holds Inv-loop μ-loop
 loop-holds c =
-    record { most = search needs; shorter = rw (units-length (now (c .before .before .before .before .args .name)), units-length (now (c .before .before .before .before .args .other))) (c .least .ensures); same = refl }
+    let a = c .before .before .before .before .args in
+    record { most = search needs; shorter = rw (units-length (now (a .name)), units-length (now (a .other))) (c .least .ensures); same = refl }
 
 unit-at-requires : tie.Need-unit-at-requires Inv-loop μ-loop
 unit-at-requires c κs = search needs
@@ -49,16 +50,19 @@ compare-units-requires c κs = search needs
 returns : tie.Need-returns Inv-loop μ-loop
 returns c =
     c .compare-units .ensures
-    ∙ (rw (c .before .before .before .before .unit-at .ensures, c .before .before .before .unit-at2 .ensures) (differed (c .before .before .before .before .before .before .loop .inv) (c .before .before .before .before .before .loop-test .taken)
-    (rw (c .before .before .before .before .unit-at .ensures, c .before .before .before .unit-at2 .ensures) at (sym (c .before .before .agree .ensures) ∙ c .before .if1 .left))))
+    ∙ (rw (c .before .before .before .before .unit-at .ensures, c .before .before .before .unit-at2 .ensures)
+    (differed (c .before .before .before .before .before .before .loop .inv) (c .before .before .before .before .before .loop-test .taken)
+    (rw (c .before .before .before .before .unit-at .ensures, c .before .before .before .unit-at2 .ensures) at
+    (sym (c .before .before .agree .ensures) ∙ c .before .if1 .left))))
 
 compare-requires : tie.Need-compare-requires Inv-loop μ-loop
 compare-requires c κs = search needs
 
 returns-2 : tie.Need-returns-2 Inv-loop μ-loop
 returns-2 c =
+    let a = c .before .before .before .before .before .before .before .args in
     c .compare .ensures
-    ∙ (rw (units-length (now (c .before .before .before .before .before .before .before .args .name)), units-length (now (c .before .before .before .before .before .before .before .args .other))) at (lengths (c .before .before .loop .inv) (c .before .loop-test .left)))
+    ∙ (rw (units-length (now (a .name)), units-length (now (a .other))) at (lengths (c .before .before .loop .inv) (c .before .loop-test .left)))
 
 pub upcase-cmp-iter-keys-spec : {M : Type 1} → statement M
 upcase-cmp-iter-keys-spec =
