@@ -63,7 +63,7 @@ enum {
     NTFS_POOL = 1
 };
 
-/* The refusals. */
+/* The refusals. The library gives none but these; 26, malformed capture, is the capture program's alone. */
 enum {
     NTFS_ROOT_TOO_SHORT = 1,         /* root shorter than 32 */
     NTFS_ROOT_START_OUTSIDE = 2,     /* root entries start at or past the root's length */

@@ -76,7 +76,7 @@ mod tests {
     #[test]
     fn the_texts_are_the_headers() {
         let header = include_str!("../../include/ntfs_index.h");
-        let list = &header[header.find("/* The refusals. */").unwrap()..];
+        let list = &header[header.find("/* The refusals.").unwrap()..];
         for (line, number) in list.lines().skip(2).zip(1..=25) {
             let text = Refusal::new(number, 0).text();
             assert!(line.contains(text), "{line}: {text}");
