@@ -102,12 +102,11 @@ fn visit_entry(table: &[u16], name: &[u16], bytes: &[u8], view: View, at: usize)
         index_node::Next::Entry(place) => {
             let entry = index_entry::entry_bytes(bytes, at);
             let next = at + place.size;
-            let below = go_below(entry);
             match compare_key(table, name, entry) {
                 Against::Refused(r) => Visit::Refused(r),
-                Against::NoKey => below,
+                Against::NoKey => go_below(entry),
                 Against::Ordered(order) => match order {
-                    Ordering::Less => below,
+                    Ordering::Less => go_below(entry),
                     Ordering::Equal => Visit::Found(place),
                     Ordering::Greater => Visit::Onward(next),
                 },

@@ -29,9 +29,6 @@ add-next c =
     (sym (c .before .before .before .before .before .next-entry .ensures) ∙ c .before .before .before .place .given .1) in
     search needs
 
-go-below-requires : tie.Need-go-below-requires
-go-below-requires c κs = search needs
-
 compare-key-requires : tie.Need-compare-key-requires
 compare-key-requires c κs = search needs
 
@@ -41,11 +38,17 @@ enum-known-r-2 c = search needs
 enum-told-2 : tie.Need-enum-told-2
 enum-told-2 c = search needs
 
+go-below-requires : tie.Need-go-below-requires
+go-below-requires c κs = search needs
+
 enum-known-order : tie.Need-enum-known-order
 enum-known-order c = search needs
 
 enum-told-3 : tie.Need-enum-told-3
 enum-told-3 c = search needs
+
+go-below-requires-2 : tie.Need-go-below-requires-2
+go-below-requires-2 c κs = search needs
 
 enum-told-4 : tie.Need-enum-told-4
 enum-told-4 c = search needs
@@ -66,11 +69,11 @@ returns-2 c =
 
 returns-3 : tie.Need-returns-3
 returns-3 c =
-    let a = c .before .before .before .before .before .before .before .before .before .before .before .before .before .before .args in
-    let told = sym (c .before .before .before .before .before .before .before .before .before .before .next-entry .ensures) ∙
-    c .before .before .before .before .before .before .before .before .place .given .1 in
-    let e = look-entry (now (a .bytes)) (a .view) (a .at) (c .before .before .before .before .before .before .before .before .place .given .0 .0) told in
-    let k = rw (c .before .before .before .before .before .before .entry-bytes .ensures) at (c .before .before .before .compare-key .ensures) in
+    let a = c .before .before .before .before .before .before .before .before .before .before .before .before .before .args in
+    let told = sym (c .before .before .before .before .before .before .before .before .before .next-entry .ensures) ∙
+    c .before .before .before .before .before .before .before .place .given .1 in
+    let e = look-entry (now (a .bytes)) (a .view) (a .at) (c .before .before .before .before .before .before .before .place .given .0 .0) told in
+    let k = rw (c .before .before .before .before .before .entry-bytes .ensures) at (c .before .before .before .compare-key .ensures) in
     rw (e, ← k, c .before .r2 .given .1)
 
 returns-4 : tie.Need-returns-4
@@ -79,9 +82,8 @@ returns-4 c =
     let told = sym (c .before .before .before .before .before .before .before .before .before .next-entry .ensures) ∙
     c .before .before .before .before .before .before .before .place .given .1 in
     let e = look-entry (now (a .bytes)) (a .view) (a .at) (c .before .before .before .before .before .before .before .place .given .0 .0) told in
-    let k = rw (c .before .before .before .before .before .entry-bytes .ensures) at (c .before .before .compare-key .ensures) in
-    rw (e, ← k, c .enum-told2 .given .1) (rw (c .before .before .before .before .before .entry-bytes .ensures) at
-    (c .before .before .before .go-below .ensures))
+    let k = rw (c .before .before .before .before .before .entry-bytes .ensures) at (c .before .before .before .compare-key .ensures) in
+    rw (e, ← k, c .before .enum-told2 .given .1) (rw (c .before .before .before .before .before .entry-bytes .ensures) at (c .go-below .ensures))
 
 returns-5 : tie.Need-returns-5
 returns-5 c =
@@ -91,33 +93,32 @@ returns-5 c =
     let e = look-entry (now (a .bytes)) (a .view) (a .at)
     (c .before .before .before .before .before .before .before .before .before .before .place .given .0 .0) told in
     let k = rw (c .before .before .before .before .before .before .before .before .entry-bytes .ensures) at
-    (c .before .before .before .before .before .compare-key .ensures) in
-    rw (e, ← k, c .before .before .before .order .given .1, c .enum-told3 .given .1)
-    (rw (c .before .before .before .before .before .before .before .before .entry-bytes .ensures) at
-    (c .before .before .before .before .before .before .go-below .ensures))
+    (c .before .before .before .before .before .before .compare-key .ensures) in
+    rw (e, ← k, c .before .before .before .before .order .given .1, c .before .enum-told3 .given .1)
+    (rw (c .before .before .before .before .before .before .before .before .entry-bytes .ensures) at (c .go-below2 .ensures))
 
 returns-6 : tie.Need-returns-6
 returns-6 c =
-    let a = c .before .before .before .before .before .before .before .before .before .before .before .before .before .before .before .before .args in
-    let told = sym (c .before .before .before .before .before .before .before .before .before .before .before .before .next-entry .ensures) ∙
-    c .before .before .before .before .before .before .before .before .before .before .place .given .1 in
+    let a = c .before .before .before .before .before .before .before .before .before .before .before .before .before .before .before .args in
+    let told = sym (c .before .before .before .before .before .before .before .before .before .before .before .next-entry .ensures) ∙
+    c .before .before .before .before .before .before .before .before .before .place .given .1 in
     let e = look-entry (now (a .bytes)) (a .view) (a .at)
-    (c .before .before .before .before .before .before .before .before .before .before .place .given .0 .0) told in
-    let k = rw (c .before .before .before .before .before .before .before .before .entry-bytes .ensures) at
+    (c .before .before .before .before .before .before .before .before .before .place .given .0 .0) told in
+    let k = rw (c .before .before .before .before .before .before .before .entry-bytes .ensures) at
     (c .before .before .before .before .before .compare-key .ensures) in
     rw (e, ← k, c .before .before .before .order .given .1, c .enum-told4 .given .1)
 
 returns-7 : tie.Need-returns-7
 returns-7 c =
-    let a = c .before .before .before .before .before .before .before .before .before .before .before .before .before .before .before .before .args in
-    let told = sym (c .before .before .before .before .before .before .before .before .before .before .before .before .next-entry .ensures) ∙
-    c .before .before .before .before .before .before .before .before .before .before .place .given .1 in
+    let a = c .before .before .before .before .before .before .before .before .before .before .before .before .before .before .before .args in
+    let told = sym (c .before .before .before .before .before .before .before .before .before .before .before .next-entry .ensures) ∙
+    c .before .before .before .before .before .before .before .before .before .place .given .1 in
     let e = look-entry (now (a .bytes)) (a .view) (a .at)
-    (c .before .before .before .before .before .before .before .before .before .before .place .given .0 .0) told in
-    let k = rw (c .before .before .before .before .before .before .before .before .entry-bytes .ensures) at
+    (c .before .before .before .before .before .before .before .before .before .place .given .0 .0) told in
+    let k = rw (c .before .before .before .before .before .before .before .entry-bytes .ensures) at
     (c .before .before .before .before .before .compare-key .ensures) in
     let w = read-within (now (a .bytes)) (a .view) (a .at)
-    (c .before .before .before .before .before .before .before .before .before .before .place .given .0 .0) told in
+    (c .before .before .before .before .before .before .before .before .before .place .given .0 .0) told in
     rw (e, ← k, c .before .before .before .order .given .1, c .enum-told5 .given .1, w .0)
 
 pub visit-entry-spec : {M : Type 1} → statement M
@@ -130,12 +131,13 @@ visit-entry-spec =
     enum-known-place
     entry-bytes-requires
     add-next
-    go-below-requires
     compare-key-requires
     enum-known-r-2
     enum-told-2
+    go-below-requires
     enum-known-order
     enum-told-3
+    go-below-requires-2
     enum-told-4
     enum-told-5
     returns
