@@ -5,7 +5,7 @@ use mathlib.Core.Path.{_≡_, refl, sym, ap, _∙_, subst}
 use mathlib.Core.List.{List, [], _∷_}
 use native.Mathlib.Omega.{arith}
 use native.Mathlib.Numerals.{add-one}
-use lib.ListN.{length, getD, set, replicate, length-set, getD-replicate, length-replicate, List·getD-eq-default}
+use lib.ListN.{length, getD, set, replicate, length-set}
 use lib.Seq.{getD-set-same, getD-set-other, set-set, set-getD}
 use Rattle.refusal.specs.declared.Refusal.{Refusal}
 use Rattle.index_root.specs.declared.Judged.the-variants.{Fine, Refused}
@@ -43,6 +43,10 @@ unfolding frames
 frames-length s zero = refl
 frames-length s (suc d) = ap suc (frames-length s d)
 
+pub frames-some : (s : List Level) (d : ℕ) → 0 < d → frames s d ≡ getD s (d - 1) blank ∷ frames s (d - 1)
+unfolding frames
+frames-some s d h = let e : d ≡ suc (d - 1) = omega arith in ap (λ (x : ℕ). frames s x) e
+
 pub blank-past : (fs : List Level) (j : ℕ) → length fs ≤ j → getD (fill fs) j blank ≡ blank
 unfolding fill
 blank-past [] j h = at-blank 8 j
@@ -68,13 +72,25 @@ module _ (s : List Level) (i : ℕ) (e : s ≡ fill (frames s (suc i))) where
   unfolding fill
   set-pop = set-top blank ∙ fill-blank (frames s i)
 
-set-push : (s : List Level) (d : ℕ) (l : Level) → s ≡ fill (frames s d) → set s d l ≡ fill (l ∷ frames s d)
-unfolding fill
-set-push s d l e = ap (λ (t : List Level). set t d l) e ∙ rw (frames-length s d)
-
 cursor-eq : (ls ms : List Level) (d f o : ℕ) (r t : Kept) → ls ≡ ms → d ≡ f → r ≡ t
     → _≡_ {A = Cursor} (record { levels = ls; depth = d; opened = o; refusal = r }) (record { levels = ms; depth = f; opened = o; refusal = t })
 cursor-eq ls ms d f o r t p q s = λ i. record { levels = p i; depth = q i; opened = o; refusal = s i }
+
+module _ (c : Cursor) where
+  -- the deepest level away, anew, and put off above another
+  abbrev pub popped : Cursor
+  popped = record { levels = set (c .levels) (c .depth - 1) blank; depth = c .depth - 1; opened = c .opened; refusal = c .refusal }
+
+  abbrev pub topped : Level → Cursor
+  topped l = record { levels = set (c .levels) (c .depth - 1) l; depth = c .depth; opened = c .opened; refusal = c .refusal }
+
+  abbrev pub deeper : Level → Level → Cursor
+  deeper put below = record {
+    levels = set (set (c .levels) (c .depth - 1) put) (c .depth) below;
+    depth = c .depth + 1;
+    opened = c .opened + 1;
+    refusal = c .refusal;
+  }
 
 module _ (c : Cursor) (t : Tidy c) where
   levels-tidy : c .levels ≡ fill (frames (c .levels) (c .depth))
@@ -86,22 +102,22 @@ module _ (c : Cursor) (t : Tidy c) where
   deep : 0 < c .depth → c .levels ≡ fill (frames (c .levels) (suc (c .depth - 1)))
   deep h = let e : c .depth ≡ suc (c .depth - 1) = omega arith in subst (λ (d : ℕ). c .levels ≡ fill (frames (c .levels) d)) e levels-tidy
 
-  pub pop-law : 0 < c .depth → _≡_ {A = Cursor}
-      (record { levels = set (c .levels) (c .depth - 1) blank; depth = c .depth - 1; opened = c .opened; refusal = c .refusal })
-      (cursorOf (frames (c .levels) (c .depth - 1)) (c .opened) Nothing)
+  pub pop-law : 0 < c .depth → popped c ≡ cursorOf (frames (c .levels) (c .depth - 1)) (c .opened) Nothing
   pop-law h = cursor-eq _ _ _ _ _ _ _ (set-pop (c .levels) (c .depth - 1) (deep h)) (sym (frames-length (c .levels) (c .depth - 1))) kept-tidy
 
-  pub top-law : (l : Level) → 0 < c .depth → _≡_ {A = Cursor}
-      (record { levels = set (c .levels) (c .depth - 1) l; depth = c .depth; opened = c .opened; refusal = c .refusal })
-      (cursorOf (l ∷ frames (c .levels) (c .depth - 1)) (c .opened) Nothing)
+  pub top-law : (l : Level) → 0 < c .depth → topped c l ≡ cursorOf (l ∷ frames (c .levels) (c .depth - 1)) (c .opened) Nothing
   top-law l h = cursor-eq _ _ _ _ _ _ _ (set-top (c .levels) (c .depth - 1) (deep h) l)
       (omega (arith, frames-length (c .levels) (c .depth - 1))) kept-tidy
 
-  pub push-law : (l : Level) (o : ℕ) → _≡_ {A = Cursor}
-      (record { levels = set (c .levels) (c .depth) l; depth = c .depth + 1; opened = o; refusal = c .refusal })
-      (cursorOf (l ∷ frames (c .levels) (c .depth)) o Nothing)
-  push-law l o = cursor-eq _ _ _ _ _ _ _ (set-push (c .levels) (c .depth) l levels-tidy)
-      (omega (arith, frames-length (c .levels) (c .depth))) kept-tidy
+  pub down-law : (put below : Level) → 0 < c .depth
+      → deeper c put below ≡ cursorOf (below ∷ put ∷ frames (c .levels) (c .depth - 1)) (c .opened + 1) Nothing
+  unfolding fill
+  down-law put below h =
+      let above = frames (c .levels) (c .depth - 1) in
+      let long : c .depth ≡ suc (length above) = omega (arith, frames-length (c .levels) (c .depth - 1)) in
+      let both = ap (λ (t : List Level). set t (c .depth) below) (set-top (c .levels) (c .depth - 1) (deep h) put)
+      ∙ ap (λ (d : ℕ). set (fill (put ∷ above)) d below) long in
+      cursor-eq _ _ _ _ _ _ _ both (omega arith) kept-tidy
 
 pub tidy-of : (fs : List Level) (o : ℕ) → length fs ≤ levels → Tidy (cursorOf fs o Nothing)
 tidy-of fs o h = record { few = h; same = rw (frames-fill fs h) }
@@ -113,9 +129,6 @@ module _ (r : Cursor) (fs : List Level) (o : ℕ) (e : r ≡ cursorOf fs o Nothi
 
   pub made-frames : frames (r .levels) (r .depth) ≡ fs
   made-frames = rw e (frames-fill fs few)
-
-  pub made-depth : r .depth ≡ length fs
-  made-depth = rw e
 
   pub made-opened : r .opened ≡ o
   made-opened = rw e

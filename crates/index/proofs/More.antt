@@ -2,10 +2,9 @@
 -- So every answer under an allowance that is not refusal 12 is the full listing's answer.
 use Prim.Native.Nat.{ℕ, zero, suc, _+_, _≤_}
 use mathlib.Core.Path.{_≡_, refl, sym, _∙_}
-use mathlib.Core.Bool.{Bool, true, false}
+use mathlib.Core.Bool.{Bool, true}
 use native.Mathlib.Omega.{arith}
 use lib.IntN.{ℤ}
-use Rattle.logic.proofs.Cases.{it, look}
 use Rattle.refusal.specs.declared.Refusal.{Refusal}
 use Rattle.refusal.specs.declared.Refusal.the-variants.{TooManyLevels, AllowanceSpent}
 use Rattle.refusal.specs.Part.{Part, absent, refused, present}
@@ -16,7 +15,7 @@ use Rattle.index_node.specs.Memory.{Memory}
 use Rattle.index_node.specs.Node.{viewOf}
 use Rattle.index.specs.declared.Answer.the-variants as Answer
 use Rattle.index.specs.Entries.{Entry, Entries, over, broken, last, next, entriesAt}
-use Rattle.index.specs.Walk.{levels, Dir, dirOf, Opened, declined, opened, opening, unseen, allow, never}
+use Rattle.index.specs.Walk.{levels, Dir, dirOf, Opened, declined, opened, allow, never}
 use Rattle.index.specs.Listing.{Listing, done, stop, item, andThen, listOpened, listSub, listIn, list, listRoot, listing}
 use Rattle.index.specs.Step.{newCursor, answerAt, sayAt}
 use Rattle.index.proofs.Openings.{OrSpent, same, spent, opening-wider, larger}

@@ -1,12 +1,12 @@
 -- What the code's readings tell of the definitions: an entry that is met, one that is due, a record that is opened.
 -- One law for each answer, over plain variables.
 use Prim.Native.Nat.{ℕ, zero, suc, _+_, _≤_, _<_}
-use mathlib.Core.Path.{_≡_, refl, sym, ap, _∙_}
-use mathlib.Core.List.{List, _∷_}
+use mathlib.Core.Path.{_≡_, refl, sym, _∙_}
+use mathlib.Core.List.{List}
 use mathlib.Core.Bool.{Bool, true, false}
 use native.Mathlib.Omega.{arith}
-use borrow.Author.Tests.{eq-eqb, ne-eqb, le-leb, lt-leb, leb-false}
-use lib.Dec.{ltb, leb, eqb}
+use borrow.Author.Tests.{eq-eqb, ne-eqb}
+use lib.Dec.{ltb, eqb}
 use lib.IntN.{ℤ}
 use lib.ListN.{length}
 use Rattle.logic.proofs.Cases.{it, look, clash}
@@ -28,15 +28,14 @@ use Rattle.index_node.specs.declared.Place.{Place}
 use Rattle.index_node.specs.declared.Next.the-variants as Next
 use Rattle.index_node.specs.Memory.{Memory, placed}
 use Rattle.index_node.specs.Node.{viewOf, recordView, nextIn}
-use Rattle.index.specs.declared.Stage.the-variants.{Going}
-use Rattle.index.specs.declared.Level.{Level}
 use Rattle.index.specs.declared.Met.{Met}
+use Rattle.index.specs.declared.Read.{Read}
 use Rattle.index.specs.declared.Read.the-variants as Read
 use Rattle.index.specs.declared.Standing.{Standing}
 use Rattle.index.specs.declared.Standing.the-variants as Standing
 use Rattle.index.specs.Entries.{Entry, Look, past, bad, met, entryPart, metIn, lookIn, Entries, entriesAt}
 use Rattle.index.specs.Walk.{dirOf, Opened, declined, opened, opening, unseen, openedNode}
-use Rattle.index.specs.Step.{levelOf, yields, refuses, yieldDue, judgedEntry}
+use Rattle.index.specs.Step.{judgedEntry}
 use Rattle.index.specs.Turn.{metSays, readSays, standingSays}
 
 module _ (bytes : List ℕ) (view : View) (at : ℕ) where
@@ -119,26 +118,11 @@ judged-fine absent place e = clash (cc)
 judged-fine (refused s) place e = clash (cc)
 judged-fine (present x) place e = refl
 
-module _ (p : Part Entry) (node : Node) (next o : ℕ) (ls : List Level) where
-  pub due-refused : (r : Refusal) → standingSays p ≡ Standing.Refused r → yieldDue p node next o ls ≡ refuses r o
-  due-refused r e = elim (look p) [
-    | it absent q ↦ let s = rw q at e in rw q (cc)
-    | it (refused x) q ↦ let s = rw q at e in rw q (cc)
-    | it (present x) q ↦ clash (cc (rw q at e))
-  ]
-
-  pub due-entry : (place : Place) → standingSays p ≡ Standing.Entry place → yieldDue p node next o ls ≡ yields place o (levelOf node next Going ∷ ls)
-  due-entry place e = elim (look p) [
-    | it absent q ↦ clash (cc (rw q at e))
-    | it (refused x) q ↦ clash (cc (rw q at e))
-    | it (present x) q ↦ let s : Standing.Entry (x .place) ≡ Standing.Entry place = rw q at e in rw q (cc)
-  ]
-
 -- where the node goes on, as the code has it
-pub next-is : (l : Look) (x : Met) → readSays l ≡ Read.Entry x → x .next ≡ x .place .at + x .place .size
-next-is past x e = clash (cc)
-next-is (bad r) x e = clash (cc)
-next-is (met e) x h = let is : metSays e ≡ x = cc in rw (← is)
+pub next-is : (l : Look) (said : Read) (x : Met) → said ≡ readSays l → said ≡ Read.Entry x → x .next ≡ x .place .at + x .place .size
+next-is past said x e h = clash (cc)
+next-is (bad r) said x e h = clash (cc)
+next-is (met y) said x e h = let is : metSays y ≡ x = cc in rw (← is)
 
 module _ (m : Memory) (left : ℕ) (spent : Bool) (vcn : ℤ) where
   abbrev opens : Opened

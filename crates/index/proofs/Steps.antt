@@ -3,11 +3,11 @@
 use Prim.Native.Nat.{ℕ, zero, suc, _-_, _≤_, _<_}
 use mathlib.Core.Path.{_≡_, refl, sym, ap, _∙_}
 use mathlib.Core.List.{List}
-use mathlib.Core.Bool.{Bool, true, false, cond}
+use mathlib.Core.Bool.{Bool, true, false}
 use native.Mathlib.Omega.{arith}
 use borrow.Author.Tests.{ltb-false}
 use lib.Dec.{ltb}
-use lib.ListN.{length, getD}
+use lib.ListN.{getD}
 use Rattle.logic.proofs.Cases.{it, look}
 use Rattle.refusal.specs.declared.Refusal.{Refusal}
 use Rattle.index_root.specs.declared.Judged.{Judged}
@@ -16,76 +16,74 @@ use Rattle.index_node.specs.declared.Node.the-variants.{Root}
 use Rattle.index_node.specs.Memory.{Memory}
 use Rattle.index_node.specs.Node.{viewOf}
 use Rattle.index.specs.declared.Level.{Level}
+use Rattle.index.specs.declared.Stage.the-variants.{Going}
 use Rattle.index.specs.declared.Kept.the-variants.{Nothing, Given}
 use Rattle.index.specs.declared.Cursor.{Cursor}
-use Rattle.index.specs.declared.Answer.{Answer}
 use Rattle.index.specs.declared.Answer.the-variants as Answer
-use Rattle.index.specs.declared.Stepped.{Stepped}
-use Rattle.index.specs.declared.Next.the-variants.{Again, Says}
-use Rattle.index.specs.declared.Turned.{Turned}
+use Rattle.index.specs.declared.Move.{Move}
+use Rattle.index.specs.declared.Move.the-variants.{Pop, Yield, Down, Stop}
 use Rattle.index.specs.Walk.{levels}
-use Rattle.index.specs.Step.{blank, frames, Outcome, ends, refuses, settle, told, says, judgedView, checks, judgeAll, settled, onDepth, onKept, stepOf}
-use Rattle.index.specs.Turn.{Tidy, Move, again, out, turnM, levelM, turnedOf}
-use Rattle.index.proofs.Arrays.{frames-fill, frames-length, tidy-of}
-use Rattle.index.proofs.Moves.{weight, Moves, moves}
+use Rattle.index.specs.Step.{levelOf, blank, frames, cursorOf, Outcome, refuses, leftBelow, settle, told, says}
+use Rattle.index.specs.Step.{judgedView, checks, settled, onDepth, onKept, stepOf}
+use Rattle.index.specs.Turn.{Tidy, levelM}
+use Rattle.index.proofs.Arrays.{frames-fill, frames-length, frames-some, popped, topped, deeper, pop-law, top-law, down-law, tidy-of}
+use Rattle.index.proofs.Moves.{weight, Moved, Moves, moves}
 
 module _ (m : Memory) (spent : ℕ → Bool) where
-  pub turn-none : (s : List Level) (d o : ℕ) → d ≡ 0 → turnM m spent (frames s d) o ≡ out (ends o)
-  unfolding turnM frames
-  turn-none s d o e = rw e
-
-  pub turn-some : (s : List Level) (d o : ℕ) → 0 < d
-      → let l = getD s (d - 1) blank in
-      turnM m spent (frames s d) o ≡ levelM m spent (l .stage) (l .node) (l .next) o d (frames s (d - 1))
-  unfolding turnM frames
-  turn-some s d o h =
-      let e : d ≡ suc (d - 1) = omega arith in
-      ap (λ (x : ℕ). turnM m spent (frames s x) o) e ∙ rw (frames-length s (d - 1), ← e)
-
+  -- a cursor to go on with: tidy, with less to do, and the outcome still t
   pub record Onward (c : Cursor) (w : ℕ) (t : Outcome) : Type 0 where
     pub tidy : Tidy c
     pub less : weight (frames (c .levels) (c .depth)) < w
     pub same : settle m spent (frames (c .levels) (c .depth)) (c .opened) ≡ t
 
-  module _ (u : Turned) (t : Outcome) (w : ℕ) where
-    next-of : {v : Turned} → u ≡ v → u .next ≡ v .next
-    next-of e = ap (λ (x : Turned). x .next) e
+  onward : (c : Cursor) (w : ℕ) (t : Outcome) (fs : List Level) (o : ℕ) → c ≡ cursorOf fs o Nothing → Moved m spent t w fs o → Onward c w t
+  onward c w t fs o e g = rw e (record {
+    tidy = tidy-of fs o (g .few);
+    less = rw (frames-fill fs (g .few)) (g .less);
+    same = rw (frames-fill fs (g .few)) (sym (g .same));
+  })
 
-    goes-by : (v : Move) → Moves m spent t w v → u ≡ turnedOf v → u .next ≡ Again → Onward (u .cursor) w t
-    goes-by (again fs o) g e h = rw e (record {
-      tidy = tidy-of fs o (g .few);
-      less = rw (frames-fill fs (g .few)) (g .less);
-      same = rw (frames-fill fs (g .few)) (sym (g .same));
-    })
-    goes-by (out x) g e h =
-        let q : Says (told x .answer) ≡ Again = sym (next-of e) ∙ h in
-        absurd (let z : _≡_ {A = ℕ} 0 1 = cc in omega arith)
+  module _ (c : Cursor) (t : Outcome) where
+    abbrev top : Level
+    top = getD (c .levels) (c .depth - 1) blank
 
-    stops-by : (v : Move) → Moves m spent t w v → u ≡ turnedOf v → (a : Answer) → u .next ≡ Says a → says a (u .cursor) ≡ told t
-    stops-by (again fs o) g e a h =
-        let q : Again ≡ Says a = sym (next-of e) ∙ h in
-        absurd (let z : _≡_ {A = ℕ} 0 1 = cc in omega arith)
-    stops-by (out x) g e a h =
-        let q : Says (told x .answer) ≡ Says a = sym (next-of e) ∙ h in
-        let s : told x .answer ≡ a = cc in
-        rw (g, e, ← s)
+    abbrev above : List Level
+    above = frames (c .levels) (c .depth - 1)
 
-  -- a turn of the loop, from a tidy cursor
-  module _ (c : Cursor) (y : Tidy c) (u : Turned) (e : u ≡ turnedOf (turnM m spent (frames (c .levels) (c .depth)) (c .opened))) where
-    abbrev here : List Level
-    here = frames (c .levels) (c .depth)
+    abbrev w : ℕ
+    w = weight (frames (c .levels) (c .depth))
 
-    abbrev outcome : Outcome
-    outcome = settle m spent here (c .opened)
+    -- what a move of the deepest level does to the cursor, or the answer that it is, where the outcome is t
+    abbrev pub Turn : Move → Type 0
+    Turn Pop = Onward (popped c) w t
+    Turn (Yield p next) = says (Answer.Entry p (c .opened)) (topped c (levelOf (top .node) next Going)) ≡ told t
+    Turn (Down put below) = (c .depth < levels) × (spent (c .opened) ≡ false) × Onward (deeper c put below) w t
+    Turn (Stop r) = told (refuses r (c .opened)) ≡ told t
 
-    moved : Moves m spent outcome (weight here) (turnM m spent here (c .opened))
-    moved = moves m spent here (c .opened) (rw (frames-length (c .levels) (c .depth)) (y .few))
+    module _ (y : Tidy c) (same : settle m spent (frames (c .levels) (c .depth)) (c .opened) ≡ t) where
+      pub turn-end : c .depth ≡ 0 → says (Answer.End (c .opened)) c ≡ told t
+      unfolding frames settle
+      turn-end e = rw (← same, e) (ap (says (Answer.End (c .opened))) (rw e at (y .same)))
 
-    pub turn-again : u .next ≡ Again → Onward (u .cursor) (weight here) outcome
-    turn-again h = goes-by u outcome (weight here) (turnM m spent here (c .opened)) moved e h
+      module _ (some : 0 < c .depth) where
+        turns-as : (v : Move) → Moves m spent t w (top .node) above (c .opened) v → Turn v
+        turns-as Pop g = onward _ _ _ _ _ (pop-law c y some) g
+        turns-as (Yield p next) g = ap (says (Answer.Entry p (c .opened))) (top-law c y (levelOf (top .node) next Going) some) ∙ ap told (sym g)
+        turns-as (Down put below) g = (
+          omega (arith, g .1 .few, frames-length (c .levels) (c .depth - 1)),
+          g .0,
+          onward _ _ _ _ _ (down-law c y put below some) (g .1),
+        )
+        turns-as (Stop r) g = ap told (sym g)
 
-    pub turn-says : (a : Answer) → u .next ≡ Says a → says a (u .cursor) ≡ told outcome
-    turn-says a h = stops-by u outcome (weight here) (turnM m spent here (c .opened)) moved e a h
+        -- said: the move as the code has it, in the arm v
+        pub turns : (said v : Move) → said ≡ levelM m (levels - c .depth) (spent (c .opened)) (top .stage) (top .node) (top .next)
+            → said ≡ v → Turn v
+        turns said v e h =
+            let long = frames-length (c .levels) (c .depth - 1) in
+            let left : levels - c .depth ≡ leftBelow above = omega (arith, long) in
+            let g = moves m spent top above (c .opened) (omega (arith, long, y .few)) in
+            turns-as v (rw (← h, e, left, ← same, frames-some (c .levels) (c .depth) some) g)
 
   -- the checks of a step pass only where there are not too many levels
   pub checks-few : (d : ℕ) (fs : List Level) → checks m d fs ≡ Judged.Fine → d ≤ levels

@@ -1,10 +1,8 @@
 -- A step's walk as single moves of the deepest level: what the code's inner functions answer.
-use Prim.Native.Nat.{ℕ, zero, suc, _+_, _-_, _≤_}
+use Prim.Native.Nat.{ℕ, _≤_}
 use mathlib.Core.Path.{_≡_}
-use mathlib.Core.List.{List, [], _∷_}
 use mathlib.Core.Bool.{Bool, true, false}
 use lib.IntN.{ℤ}
-use lib.ListN.{length}
 use Rattle.refusal.specs.declared.Refusal.the-variants.{EntrySize}
 use Rattle.refusal.specs.Part.{Part, absent, refused, present}
 use Rattle.index_entry.specs.declared.Subnode.{Subnode}
@@ -27,12 +25,11 @@ use Rattle.index.specs.declared.Read.{Read}
 use Rattle.index.specs.declared.Read.the-variants as Read
 use Rattle.index.specs.declared.Standing.{Standing}
 use Rattle.index.specs.declared.Standing.the-variants as Standing
-use Rattle.index.specs.declared.Next.{Next}
-use Rattle.index.specs.declared.Next.the-variants.{Again, Says}
-use Rattle.index.specs.declared.Turned.{Turned}
+use Rattle.index.specs.declared.Move.{Move}
+use Rattle.index.specs.declared.Move.the-variants.{Pop, Yield, Down, Stop}
 use Rattle.index.specs.Entries.{Entry, Look, past, bad, met, endOf, lookAt, metAt}
 use Rattle.index.specs.Walk.{levels, dirOf, opening, unseen, openedNode}
-use Rattle.index.specs.Step.{levelOf, frames, cursorOf, Outcome, yields, ends, refuses, putOff, yieldDue, told}
+use Rattle.index.specs.Step.{levelOf, frames, cursorOf, putOff}
 
 -- what the code shows of an entry that is met, of one that is due
 abbrev pub metSays : Entry → Met
@@ -48,53 +45,46 @@ standingSays absent = Standing.Refused EntrySize
 standingSays (refused r) = Standing.Refused r
 standingSays (present e) = Standing.Entry (e .place)
 
--- go on with these levels and this count; or the step's outcome
-pub data Move : Type 0 where
-  again : List Level → ℕ → Move
-  out : Outcome → Move
+-- an entry with no subnode: after a LAST_ENTRY the walk goes on above
+abbrev pub closeM : Bool → Place → ℕ → Move
+closeM true p next = Pop
+closeM false p next = Yield p next
 
-abbrev pub closeM : Bool → Place → ℕ → ℕ → List Level → Move
-closeM true p next o ls = again ls o
-closeM false p next o ls = out (yields p o (levelOf (p .node) next Going ∷ ls))
+abbrev pub openM : Viewed → ℤ → Level → Move
+openM (Viewed.Refused r) vcn top = Stop r
+openM (Viewed.Fine view) vcn top = Down top (levelOf (Record vcn) (view .start) Going)
 
-abbrev pub openM : Viewed → ℤ → Level → ℕ → List Level → Move
-openM (Viewed.Refused r) vcn p o ls = out (refuses r o)
-openM (Viewed.Fine view) vcn p o ls = again (levelOf (Record vcn) (view .start) Going ∷ p ∷ ls) (o + 1)
+abbrev pub dueM : Standing → ℕ → Move
+dueM (Standing.Refused r) next = Stop r
+dueM (Standing.Entry place) next = Yield place next
 
--- d: how many levels there are, this one with them
-abbrev pub tryM : Memory → (spent : ℕ → Bool) → ℤ → Level → ℕ → ℕ → List Level → Move
-tryM m spent vcn p o d ls = openM (openedNode m vcn (opening (dirOf m) (levels - d) (spent o) unseen vcn)) vcn p o ls
+-- left: levels left below; spent: may no record be opened any more
+module _ (m : Memory) (left : ℕ) (spent : Bool) where
+  abbrev pub tryM : ℤ → Level → Move
+  tryM vcn top = openM (openedNode m vcn (opening (dirOf m) left spent unseen vcn)) vcn top
 
-abbrev pub subM : Memory → (spent : ℕ → Bool) → Subnode → Met → ℕ → ℕ → List Level → Move
-subM m spent Subnode.Absent x o d ls = closeM (x .last) (x .place) (x .next) o ls
-subM m spent (Subnode.Refused r) x o d ls = out (refuses r o)
-subM m spent (Subnode.Vcn vcn) x o d ls = tryM m spent vcn (putOff (x .last) (x .place)) o d ls
+  abbrev pub subM : Subnode → Met → Move
+  subM Subnode.Absent x = closeM (x .last) (x .place) (x .next)
+  subM (Subnode.Refused r) x = Stop r
+  subM (Subnode.Vcn vcn) x = tryM vcn (putOff (x .last) (x .place))
 
-abbrev pub readM : Memory → (spent : ℕ → Bool) → Read → ℕ → ℕ → List Level → Move
-readM m spent Read.Over o d ls = again ls o
-readM m spent (Read.Refused r) o d ls = out (refuses r o)
-readM m spent (Read.Entry x) o d ls = subM m spent (x .sub) x o d ls
+  abbrev pub readM : Read → Move
+  readM Read.Over = Pop
+  readM (Read.Refused r) = Stop r
+  readM (Read.Entry x) = subM (x .sub) x
 
-unfoldable pub visitM : Memory → (spent : ℕ → Bool) → Node → ℕ → ℕ → ℕ → List Level → Move
-visitM m spent node at o d ls = readM m spent (readSays (lookAt m node at)) o d ls
+  unfoldable pub visitM : Node → ℕ → Move
+  visitM node at = readM (readSays (lookAt m node at))
 
-abbrev pub beginM : Memory → (spent : ℕ → Bool) → Viewed → Node → ℕ → ℕ → List Level → Move
-beginM m spent (Viewed.Refused r) node o d ls = out (refuses r o)
-beginM m spent (Viewed.Fine view) node o d ls = visitM m spent node (view .start) o d ls
+  abbrev pub beginM : Viewed → Node → Move
+  beginM (Viewed.Refused r) node = Stop r
+  beginM (Viewed.Fine view) node = visitM node (view .start)
 
-unfoldable pub levelM : Memory → (spent : ℕ → Bool) → Stage → Node → ℕ → ℕ → ℕ → List Level → Move
-levelM m spent Fresh node next o d ls = beginM m spent (viewOf m node) node o d ls
-levelM m spent Going node next o d ls = visitM m spent node next o d ls
-levelM m spent (Due at) node next o d ls = out (yieldDue (metAt m node at) node next o ls)
-levelM m spent Ended node next o d ls = again ls o
-
-unfoldable pub turnM : Memory → (spent : ℕ → Bool) → List Level → ℕ → Move
-turnM m spent [] o = out (ends o)
-turnM m spent (l ∷ ls) o = levelM m spent (l .stage) (l .node) (l .next) o (suc (length ls)) ls
-
-abbrev pub turnedOf : Move → Turned
-turnedOf (again fs o) = record { next = Again; cursor = cursorOf fs o Nothing }
-turnedOf (out t) = record { next = Says (told t .answer); cursor = told t .cursor }
+  unfoldable pub levelM : Stage → Node → ℕ → Move
+  levelM Fresh node next = beginM (viewOf m node) node
+  levelM Going node next = visitM node next
+  levelM (Due at) node next = dueM (standingSays (metAt m node at)) next
+  levelM Ended node next = Pop
 
 -- a cursor with no refusal kept, not too many levels, and blank past them
 pub record Tidy (c : Cursor) : Type 0 where

@@ -1,13 +1,13 @@
 // Listing and lookup of an index: src/index.rs.
 ghost use mathlib.Core.Path.{_≡_};
-ghost use mathlib.Core.List.{_∷_, []};
-ghost use Prim.Native.Nat.{_+_, _-_, _≤_, _<_};
+ghost use mathlib.Core.List.{[]};
+ghost use Prim.Native.Nat.{_+_, _≤_};
 ghost use Rattle.index_node.specs.Memory.{memory};
 ghost use Rattle.index_node.specs.Node.{viewOf};
 ghost use Rattle.index.specs.Entries.{lookIn, lookAt, metAt};
 ghost use Rattle.index.specs.Walk.{levels, dirOf, opening, unseen, allow, openedNode};
-ghost use Rattle.index.specs.Step.{levelOf, frames, cursorOf, newCursor, yields, refuses, putOff, yieldDue, settle, judgedView, judge, judgeAll, checks, told, stepOf};
-ghost use Rattle.index.specs.Turn.{readSays, standingSays, again, out, tryM, subM, visitM, beginM, levelM, turnM, turnedOf, Tidy};
+ghost use Rattle.index.specs.Step.{levelOf, blank, frames, cursorOf, newCursor, refuses, putOff, settle, judgedView, judge, judgeAll, checks, told, stepOf};
+ghost use Rattle.index.specs.Turn.{readSays, standingSays, tryM, subM, visitM, beginM, dueM, levelM, Tidy};
 use index_entry::EntryAt;
 use index_entry::Subnode;
 use index_node::Node;
@@ -77,14 +77,12 @@ enum Standing {
     Refused(Refusal),
 }
 
-enum Next {
-    Again,
-    Says(Answer),
-}
-
-struct Turned {
-    pub next: Next,
-    pub cursor: Cursor,
+// A move of the deepest level: it is dropped; it yields an entry and goes on at next; its entry is put off and the walk goes down; a refusal.
+enum Move {
+    Pop,
+    Yield { place: Place, next: usize },
+    Down { top: Level, below: Level },
+    Stop(Refusal),
 }
 
 // What a node, lent as its bytes, holds at a position.
@@ -227,15 +225,31 @@ pub fn open_record<'a>(
     index_node::open_node(root, pool, cluster, Node::Record(vcn))
 }
 
+fn blank_level() -> Level
+    ensures { λ r. ⌜ r ≡ blank ⌝ }
+{
+    Level {
+        node: Node::Root,
+        next: 0,
+        stage: Stage::Fresh,
+    }
+}
+
+fn going_on(node: Node, next: usize) -> Level
+    ensures { λ r. ⌜ r ≡ levelOf node next Stage.Going ⌝ }
+{
+    Level {
+        node,
+        next,
+        stage: Stage::Going,
+    }
+}
+
 // No level, and blank past it.
 fn blank_cursor(opened: u64, refusal: Kept) -> Cursor
     ensures { λ r. ⌜ r ≡ cursorOf [] opened refusal ⌝ }
 {
-    let l = Level {
-        node: Node::Root,
-        next: 0,
-        stage: Stage::Fresh,
-    };
+    let l = blank_level();
     Cursor {
         levels: [l; LEVELS],
         depth: 0,
@@ -257,19 +271,6 @@ fn refuse(r: Refusal, o: u64) -> Stepped
     }
 }
 
-fn stop_turn(r: Refusal, o: u64) -> Turned
-    ensures { λ x. ⌜ x ≡ turnedOf (out (refuses r o)) ⌝ }
-{
-    let c = blank_cursor(o, Kept::Given(r));
-    Turned {
-        next: Next::Says(Answer::Refused {
-            refusal: r,
-            opened: o,
-        }),
-        cursor: c,
-    }
-}
-
 // The same levels, blank past them.
 fn tidy_up(c: Cursor) -> Cursor
     requires { ⌜ c .depth ≤ levels ⌝ }
@@ -284,43 +285,6 @@ fn tidy_up(c: Cursor) -> Cursor
         i += 1;
     }
     r.depth = d;
-    r
-}
-
-fn popped(c: Cursor) -> Cursor
-    requires { ⌜ (0 < c .depth) × Tidy c ⌝ }
-    ensures { λ r. ⌜ r ≡ cursorOf (frames (c .levels) (c .depth - 1)) (c .opened) Kept.Nothing ⌝ }
-{
-    let i = c.depth - 1;
-    let mut r = c;
-    r.levels[i] = Level {
-        node: Node::Root,
-        next: 0,
-        stage: Stage::Fresh,
-    };
-    r.depth = i;
-    r
-}
-
-fn topped(c: Cursor, l: Level) -> Cursor
-    requires { ⌜ (0 < c .depth) × Tidy c ⌝ }
-    ensures { λ r. ⌜ r ≡ cursorOf (l ∷ frames (c .levels) (c .depth - 1)) (c .opened) Kept.Nothing ⌝ }
-{
-    let i = c.depth - 1;
-    let mut r = c;
-    r.levels[i] = l;
-    r
-}
-
-fn pushed(c: Cursor, l: Level, opened: u64) -> Cursor
-    requires { ⌜ (c .depth < levels) × Tidy c ⌝ }
-    ensures { λ r. ⌜ r ≡ cursorOf (l ∷ frames (c .levels) (c .depth)) opened Kept.Nothing ⌝ }
-{
-    let d = c.depth;
-    let mut r = c;
-    r.levels[d] = l;
-    r.depth = d + 1;
-    r.opened = opened;
     r
 }
 
@@ -343,68 +307,24 @@ fn put_off(last: bool, place: Place, next: usize) -> Level
     }
 }
 
-fn yield_entry(c: Cursor, node: Node, place: Place, next: usize) -> Turned
-    requires { ⌜ (0 < c .depth) × Tidy c ⌝ }
-    ensures { λ r. ⌜ r ≡ turnedOf (out (yields place (c .opened) (levelOf node next Stage.Going ∷ frames (c .levels) (c .depth - 1)))) ⌝ }
-{
-    let o = c.opened;
-    let r = topped(
-        c,
-        Level {
-            node,
-            next,
-            stage: Stage::Going,
-        },
-    );
-    Turned {
-        next: Next::Says(Answer::Entry { place, opened: o }),
-        cursor: r,
-    }
-}
-
-fn pop_turn(c: Cursor) -> Turned
-    requires { ⌜ (0 < c .depth) × Tidy c ⌝ }
-    ensures { λ r. ⌜ r ≡ turnedOf (again (frames (c .levels) (c .depth - 1)) (c .opened)) ⌝ }
-{
-    let r = popped(c);
-    Turned {
-        next: Next::Again,
-        cursor: r,
-    }
-}
-
-// An entry's subnode: the entry is put off, and the walk goes down.
+// An entry's subnode: where it opens, the entry is put off, and the walk goes down.
 fn open_sub<'a>(
     root: &'a [u8],
     pool: &'a [u8],
     cluster: usize,
     allowance: u64,
-    c: Cursor,
-    p: Level,
+    opened: u64,
+    left: usize,
+    top: Level,
     vcn: i64,
-) -> Turned
-    requires { ⌜ (0 < c .depth) × Tidy c ⌝ }
-    ensures { λ r. ⌜ r ≡ turnedOf (tryM (memory (now (root .entry)) (now (pool .entry)) cluster) (allow allowance) vcn p (c .opened) (c .depth) (frames (c .levels) (c .depth - 1))) ⌝ }
+) -> Move
+    ensures { λ r. ⌜ r ≡ tryM (memory (now (root .entry)) (now (pool .entry)) cluster) left (allow allowance opened) vcn top ⌝ }
 {
-    let o = c.opened;
-    let left = LEVELS - c.depth;
-    match open_record(root, pool, cluster, allowance, o, left, vcn) {
-        Viewed::Refused(r) => stop_turn(r, o),
+    match open_record(root, pool, cluster, allowance, opened, left, vcn) {
+        Viewed::Refused(r) => Move::Stop(r),
         Viewed::Fine(view) => {
-            let t = topped(c, p);
-            let r = pushed(
-                t,
-                Level {
-                    node: Node::Record(vcn),
-                    next: view.start,
-                    stage: Stage::Going,
-                },
-                o + 1,
-            );
-            Turned {
-                next: Next::Again,
-                cursor: r,
-            }
+            let below = going_on(Node::Record(vcn), view.start);
+            Move::Down { top, below }
         }
     }
 }
@@ -414,13 +334,13 @@ fn enter_entry<'a>(
     pool: &'a [u8],
     cluster: usize,
     allowance: u64,
-    c: Cursor,
+    opened: u64,
+    left: usize,
     x: Met,
-) -> Turned
-    requires { ⌜ (0 < c .depth) × Tidy c × (x .next ≡ x .place .at + x .place .size) ⌝ }
-    ensures { λ r. ⌜ r ≡ turnedOf (subM (memory (now (root .entry)) (now (pool .entry)) cluster) (allow allowance) (x .sub) x (c .opened) (c .depth) (frames (c .levels) (c .depth - 1))) ⌝ }
+) -> Move
+    requires { ⌜ x .next ≡ x .place .at + x .place .size ⌝ }
+    ensures { λ r. ⌜ r ≡ subM (memory (now (root .entry)) (now (pool .entry)) cluster) left (allow allowance opened) (x .sub) x ⌝ }
 {
-    let o = c.opened;
     let sub = x.sub;
     let place = x.place;
     let next = x.next;
@@ -428,15 +348,14 @@ fn enter_entry<'a>(
     match sub {
         Subnode::Absent => {
             if last {
-                return pop_turn(c);
+                return Move::Pop;
             }
-            let node = place.node;
-            yield_entry(c, node, place, next)
+            Move::Yield { place, next }
         }
-        Subnode::Refused(r) => stop_turn(r, o),
+        Subnode::Refused(r) => Move::Stop(r),
         Subnode::Vcn(vcn) => {
-            let p = put_off(last, place, next);
-            open_sub(root, pool, cluster, allowance, c, p, vcn)
+            let top = put_off(last, place, next);
+            open_sub(root, pool, cluster, allowance, opened, left, top, vcn)
         }
     }
 }
@@ -446,18 +365,17 @@ fn visit_at<'a>(
     pool: &'a [u8],
     cluster: usize,
     allowance: u64,
-    c: Cursor,
+    opened: u64,
+    left: usize,
     node: Node,
     at: usize,
-) -> Turned
-    requires { ⌜ (0 < c .depth) × Tidy c ⌝ }
-    ensures { λ r. ⌜ r ≡ turnedOf (visitM (memory (now (root .entry)) (now (pool .entry)) cluster) (allow allowance) node at (c .opened) (c .depth) (frames (c .levels) (c .depth - 1))) ⌝ }
+) -> Move
+    ensures { λ r. ⌜ r ≡ visitM (memory (now (root .entry)) (now (pool .entry)) cluster) left (allow allowance opened) node at ⌝ }
 {
-    let o = c.opened;
     match read_at(root, pool, cluster, node, at) {
-        Read::Over => pop_turn(c),
-        Read::Refused(r) => stop_turn(r, o),
-        Read::Entry(x) => enter_entry(root, pool, cluster, allowance, c, x),
+        Read::Over => Move::Pop,
+        Read::Refused(r) => Move::Stop(r),
+        Read::Entry(x) => enter_entry(root, pool, cluster, allowance, opened, left, x),
     }
 }
 
@@ -467,19 +385,24 @@ fn begin_level<'a>(
     pool: &'a [u8],
     cluster: usize,
     allowance: u64,
-    c: Cursor,
+    opened: u64,
+    left: usize,
     node: Node,
-) -> Turned
-    requires { ⌜ (0 < c .depth) × Tidy c ⌝ }
-    ensures { λ r. ⌜ r ≡ turnedOf (beginM (memory (now (root .entry)) (now (pool .entry)) cluster) (allow allowance) (viewOf (memory (now (root .entry)) (now (pool .entry)) cluster) node) node (c .opened) (c .depth) (frames (c .levels) (c .depth - 1))) ⌝ }
+) -> Move
+    ensures { λ r. ⌜ r ≡ beginM (memory (now (root .entry)) (now (pool .entry)) cluster) left (allow allowance opened) (viewOf (memory (now (root .entry)) (now (pool .entry)) cluster) node) node ⌝ }
 {
-    let o = c.opened;
     match index_node::open_node(root, pool, cluster, node) {
-        Viewed::Refused(r) => stop_turn(r, o),
-        Viewed::Fine(view) => {
-            let start = view.start;
-            visit_at(root, pool, cluster, allowance, c, node, start)
-        }
+        Viewed::Refused(r) => Move::Stop(r),
+        Viewed::Fine(view) => visit_at(
+            root,
+            pool,
+            cluster,
+            allowance,
+            opened,
+            left,
+            node,
+            view.start,
+        ),
     }
 }
 
@@ -488,19 +411,15 @@ fn yield_due<'a>(
     root: &'a [u8],
     pool: &'a [u8],
     cluster: usize,
-    c: Cursor,
-    l: Level,
+    node: Node,
+    next: usize,
     at: usize,
-) -> Turned
-    requires { ⌜ (0 < c .depth) × Tidy c ⌝ }
-    ensures { λ r. ⌜ r ≡ turnedOf (out (yieldDue (metAt (memory (now (root .entry)) (now (pool .entry)) cluster) (l .node) at) (l .node) (l .next) (c .opened) (frames (c .levels) (c .depth - 1)))) ⌝ }
+) -> Move
+    ensures { λ r. ⌜ r ≡ dueM (standingSays (metAt (memory (now (root .entry)) (now (pool .entry)) cluster) node at)) next ⌝ }
 {
-    let o = c.opened;
-    let node = l.node;
-    let next = l.next;
     match standing_at(root, pool, cluster, node, at) {
-        Standing::Refused(r) => stop_turn(r, o),
-        Standing::Entry(place) => yield_entry(c, node, place, next),
+        Standing::Refused(r) => Move::Stop(r),
+        Standing::Entry(place) => Move::Yield { place, next },
     }
 }
 
@@ -510,47 +429,24 @@ fn turn_level<'a>(
     pool: &'a [u8],
     cluster: usize,
     allowance: u64,
-    c: Cursor,
+    opened: u64,
+    left: usize,
     l: Level,
-) -> Turned
-    requires { ⌜ (0 < c .depth) × Tidy c ⌝ }
-    ensures { λ r. ⌜ r ≡ turnedOf (levelM (memory (now (root .entry)) (now (pool .entry)) cluster) (allow allowance) (l .stage) (l .node) (l .next) (c .opened) (c .depth) (frames (c .levels) (c .depth - 1))) ⌝ }
+) -> Move
+    ensures { λ r. ⌜ r ≡ levelM (memory (now (root .entry)) (now (pool .entry)) cluster) left (allow allowance opened) (l .stage) (l .node) (l .next) ⌝ }
 {
     let node = l.node;
+    let next = l.next;
     let stage = l.stage;
     match stage {
-        Stage::Fresh => begin_level(root, pool, cluster, allowance, c, node),
-        Stage::Going => visit_at(root, pool, cluster, allowance, c, node, l.next),
-        Stage::Due(at) => yield_due(root, pool, cluster, c, l, at),
-        Stage::Ended => pop_turn(c),
+        Stage::Fresh => begin_level(root, pool, cluster, allowance, opened, left, node),
+        Stage::Going => visit_at(root, pool, cluster, allowance, opened, left, node, next),
+        Stage::Due(at) => yield_due(root, pool, cluster, node, next, at),
+        Stage::Ended => Move::Pop,
     }
 }
 
-fn turn_once<'a>(
-    root: &'a [u8],
-    pool: &'a [u8],
-    cluster: usize,
-    allowance: u64,
-    c: Cursor,
-) -> Turned
-    requires { ⌜ Tidy c ⌝ }
-    ensures { λ r. ⌜ r ≡ turnedOf (turnM (memory (now (root .entry)) (now (pool .entry)) cluster) (allow allowance) (frames (c .levels) (c .depth)) (c .opened)) ⌝ }
-{
-    let o = c.opened;
-    let d = c.depth;
-    if d == 0 {
-        let b = blank_cursor(o, Kept::Nothing);
-        return Turned {
-            next: Next::Says(Answer::End(o)),
-            cursor: b,
-        };
-    }
-    let i = d - 1;
-    let l = c.levels[i];
-    turn_level(root, pool, cluster, allowance, c, l)
-}
-
-// Moves until the step has its answer.
+// Moves until the step has its answer. The cursor is changed here alone, in place: a copy of it costs more than a move.
 fn settle_all<'a>(
     root: &'a [u8],
     pool: &'a [u8],
@@ -561,32 +457,41 @@ fn settle_all<'a>(
     requires { ⌜ Tidy c ⌝ }
     ensures { λ r. ⌜ r ≡ told (settle (memory (now (root .entry)) (now (pool .entry)) cluster) (allow allowance) (frames (c .levels) (c .depth)) (c .opened)) ⌝ }
 {
-    let mut cur = c;
-    loop {
-        let t = turn_once(root, pool, cluster, allowance, cur);
-        let x = t.next;
-        cur = t.cursor;
-        match x {
-            Next::Again => {}
-            Next::Says(a) => {
-                return Stepped {
-                    answer: a,
-                    cursor: cur,
-                };
+    let mut cursor = c;
+    while 0 < cursor.depth {
+        let o = cursor.opened;
+        let d = cursor.depth;
+        let i = d - 1;
+        let l = cursor.levels[i];
+        let node = l.node;
+        match turn_level(root, pool, cluster, allowance, o, LEVELS - d, l) {
+            Move::Pop => {
+                cursor.levels[i] = blank_level();
+                cursor.depth = i;
             }
+            Move::Yield { place, next } => {
+                cursor.levels[i] = going_on(node, next);
+                let answer = Answer::Entry { place, opened: o };
+                return Stepped { answer, cursor };
+            }
+            Move::Down { top, below } => {
+                cursor.levels[i] = top;
+                cursor.levels[d] = below;
+                cursor.depth = d + 1;
+                cursor.opened = o + 1;
+            }
+            Move::Stop(r) => return refuse(r, o),
         }
     }
+    let answer = Answer::End(cursor.opened);
+    Stepped { answer, cursor }
 }
 
 // A listing that has not begun.
 pub fn new_cursor() -> Cursor
     ensures { λ r. ⌜ r ≡ newCursor ⌝ }
 {
-    let l = Level {
-        node: Node::Root,
-        next: 0,
-        stage: Stage::Fresh,
-    };
+    let l = blank_level();
     Cursor {
         levels: [l; LEVELS],
         depth: 1,

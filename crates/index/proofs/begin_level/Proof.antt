@@ -10,9 +10,6 @@ open-node-requires c κs = search needs
 enum-known-r : tie.Need-enum-known-r
 enum-known-r c = search needs
 
-stop-turn-requires : tie.Need-stop-turn-requires
-stop-turn-requires c κs = search needs
-
 enum-known-view : tie.Need-enum-known-view
 enum-known-view c = search needs
 
@@ -20,7 +17,7 @@ visit-at-requires : tie.Need-visit-at-requires
 visit-at-requires c κs = search needs
 
 returns : tie.Need-returns
-returns c = rw (← c .before .before .before .before .open-node .ensures, c .before .before .r .given .1) (c .stop-turn .ensures)
+returns c = rw (← c .before .before .before .open-node .ensures, c .before .r .given .1)
 
 returns-2 : tie.Need-returns-2
 returns-2 c = rw (← c .before .before .before .before .open-node .ensures, c .before .before .view .given .1) (c .visit-at .ensures)
@@ -28,11 +25,4 @@ returns-2 c = rw (← c .before .before .before .before .open-node .ensures, c .
 pub begin-level-spec : {M : Type 1} → statement M
 begin-level-spec =
     tie.close
-    (tie.spec
-    open-node-requires
-    enum-known-r
-    stop-turn-requires
-    enum-known-view
-    visit-at-requires
-    returns
-    returns-2)
+    (tie.spec open-node-requires enum-known-r enum-known-view visit-at-requires returns returns-2)

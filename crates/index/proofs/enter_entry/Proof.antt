@@ -11,20 +11,11 @@ use Rattle.index.proofs.enter_entry.Tie as tie
 enum-told : tie.Need-enum-told
 enum-told c = search needs
 
-pop-turn-requires : tie.Need-pop-turn-requires
-pop-turn-requires c κs = search needs
-
 returns : tie.Need-returns
-returns c = rw (c .before .before .enum-told .given .1, c .before .if1 .taken) (c .pop-turn .ensures)
-
-yield-entry-requires : tie.Need-yield-entry-requires
-yield-entry-requires c κs = search needs
+returns c = rw (c .before .enum-told .given .1, c .if1 .taken)
 
 enum-known-sub : tie.Need-enum-known-sub
 enum-known-sub c = search needs
-
-stop-turn-requires : tie.Need-stop-turn-requires
-stop-turn-requires c κs = search needs
 
 enum-known-sub-2 : tie.Need-enum-known-sub-2
 enum-known-sub-2 c = search needs
@@ -36,10 +27,10 @@ open-sub-requires : tie.Need-open-sub-requires
 open-sub-requires c κs = search needs
 
 returns-2 : tie.Need-returns-2
-returns-2 c = rw (c .before .before .enum-told .given .1, c .before .if1 .left) (c .yield-entry .ensures)
+returns-2 c = rw (c .before .enum-told .given .1, c .if1 .left)
 
 returns-3 : tie.Need-returns-3
-returns-3 c = rw (c .before .before .sub .given .1) (c .stop-turn .ensures)
+returns-3 c = rw (c .before .sub .given .1)
 
 returns-4 : tie.Need-returns-4
 returns-4 c =
@@ -52,11 +43,8 @@ enter-entry-spec =
     tie.close
     (tie.spec
     enum-told
-    pop-turn-requires
     returns
-    yield-entry-requires
     enum-known-sub
-    stop-turn-requires
     enum-known-sub-2
     put-off-requires
     open-sub-requires

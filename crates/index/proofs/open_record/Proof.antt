@@ -1,6 +1,5 @@
 -- `open_record`: 10, 11, 12, and then what `open_node` says of the record.
 -- One law for each answer.
-use mathlib.Core.Path.{sym}
 use denote.Ref.{now}
 use borrow.Author.Tests.{le-leb, lt-leb}
 use Rattle.index_node.specs.Memory.{memory}

@@ -26,9 +26,6 @@ yield-due-requires c κs = search needs
 enum-told-3 : tie.Need-enum-told-3
 enum-told-3 c = search needs
 
-pop-turn-requires : tie.Need-pop-turn-requires
-pop-turn-requires c κs = search needs
-
 returns : tie.Need-returns
 unfolding levelM
 returns c = rw (c .before .enum-told .given .1) (c .begin-level .ensures)
@@ -43,7 +40,7 @@ returns-3 c = rw (c .before .before .stage .given .1) (c .yield-due .ensures)
 
 returns-4 : tie.Need-returns-4
 unfolding levelM
-returns-4 c = rw (c .before .enum-told3 .given .1) (c .pop-turn .ensures)
+returns-4 c = rw (c .enum-told3 .given .1)
 
 pub turn-level-spec : {M : Type 1} → statement M
 turn-level-spec =
@@ -56,7 +53,6 @@ turn-level-spec =
     enum-known-stage
     yield-due-requires
     enum-told-3
-    pop-turn-requires
     returns
     returns-2
     returns-3
