@@ -32,8 +32,9 @@ open-node-requires c κs = search needs
 
 returns-4 : tie.Need-returns-4
 returns-4 c =
+    let a = c .before .before .before .before .before .before .args in
     rw (lt-leb _ _ (c .before .if3 .left), c .open-node .ensures, toZ-ofZ {w = w64} (c .before .before .before .before .before .before .fits .vcn))
-    (open-node (memory (now (c .before .before .before .before .before .before .args .root)) (now (c .before .before .before .before .before .before .args .pool)) (c .before .before .before .before .before .before .args .cluster)) (c .before .before .before .before .before .before .args .vcn) _ (c .before .before .before .if1 .left) (c .before .before .if2 .left))
+    (open-node (memory (now (a .root)) (now (a .pool)) (a .cluster)) (a .vcn) _ (c .before .before .before .if1 .left) (c .before .before .if2 .left))
 
 pub open-record-spec : {M : Type 1} → statement M
 open-record-spec =

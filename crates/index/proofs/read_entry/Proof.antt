@@ -37,17 +37,23 @@ subnode-vcn-requires : tie.Need-subnode-vcn-requires
 subnode-vcn-requires c κs = search needs
 
 returns : tie.Need-returns
-returns c = rw (look-over (now (c .before .before .before .before .args .bytes)) (c .before .before .before .before .args .view) (c .before .before .before .before .args .at) (sym (c .before .before .next-entry .ensures) ∙ c .enum-told .given .1))
+returns c =
+    let a = c .before .before .before .before .args in
+    rw (look-over (now (a .bytes)) (a .view) (a .at) (sym (c .before .before .next-entry .ensures) ∙ c .enum-told .given .1))
 
 returns-2 : tie.Need-returns-2
 returns-2 c =
-    rw (look-refused (now (c .before .before .before .before .before .args .bytes)) (c .before .before .before .before .before .args .view) (c .before .before .before .before .before .args .at) (c .before .r .given .0 .0) (sym (c .before .before .before .next-entry .ensures) ∙ c .before .r .given .1))
+    let a = c .before .before .before .before .before .args in
+    rw (look-refused (now (a .bytes)) (a .view) (a .at) (c .before .r .given .0 .0)
+    (sym (c .before .before .before .next-entry .ensures) ∙ c .before .r .given .1))
 
 returns-3 : tie.Need-returns-3
 returns-3 c =
-    let told = sym (c .before .before .before .before .before .before .before .next-entry .ensures) ∙ c .before .before .before .before .before .place .given .1 in
-    let e = look-entry (now (c .before .before .before .before .before .before .before .before .before .args .bytes)) (c .before .before .before .before .before .before .before .before .before .args .view) (c .before .before .before .before .before .before .before .before .before .args .at) (c .before .before .before .before .before .place .given .0 .0) told in
-    let w = read-within (now (c .before .before .before .before .before .before .before .before .before .args .bytes)) (c .before .before .before .before .before .before .before .before .before .args .view) (c .before .before .before .before .before .before .before .before .before .args .at) (c .before .before .before .before .before .place .given .0 .0) told in
+    let a = c .before .before .before .before .before .before .before .before .before .args in
+    let told = sym (c .before .before .before .before .before .before .before .next-entry .ensures) ∙
+    c .before .before .before .before .before .place .given .1 in
+    let e = look-entry (now (a .bytes)) (a .view) (a .at) (c .before .before .before .before .before .place .given .0 .0) told in
+    let w = read-within (now (a .bytes)) (a .view) (a .at) (c .before .before .before .before .before .place .given .0 .0) told in
     rw (e, w .0, c .before .is-last-entry .ensures, c .subnode-vcn .ensures, c .before .before .before .entry-bytes .ensures)
 
 pub read-entry-spec : {M : Type 1} → statement M
