@@ -7,8 +7,7 @@ use mathlib.Core.Option.{Option, some, none}
 use lib.Dec.{eqb}
 use lib.IntN.{ℤ}
 use lib.ListN.{length}
-use Rattle.refusal.specs.declared.Refusal.{Refusal}
-use Rattle.refusal.specs.declared.Refusal.the-variants.{EntrySize, KeyUnreadable, NodeEnd, KeyMissing, NameFalls}
+use Rattle.refusal.specs.declared.Refusal.the-variants.{KeyUnreadable, NodeEnd, KeyMissing, NameFalls}
 use Rattle.refusal.specs.Part.{Part, absent, refused, present, bytesOf}
 use Rattle.ordering.specs.declared.Ordering.{Ordering}
 use Rattle.ordering.specs.declared.Ordering.the-variants.{Less, Equal, Greater}
@@ -29,8 +28,8 @@ use Rattle.index_node.specs.declared.Viewed.the-variants as Viewed
 use Rattle.index_node.specs.Memory.{Memory, placed, placeBytes}
 use Rattle.index_node.specs.Node.{viewOf}
 use Rattle.index.specs.Entries.{Entry, Look, past, bad, met, endOf}
-use Rattle.index.specs.Walk.{Opened, declined, opened}
-use Rattle.index_finder.specs.Kind.{Kind, fileNames}
+use Rattle.index.specs.Walk.{dirOf, Opened, declined, opened, opening}
+use Rattle.index_finder.specs.Kind.{fileNames}
 use Rattle.checker.specs.declared.Before.{Before}
 use Rattle.checker.specs.declared.Before.the-variants as Before
 use Rattle.checker.specs.declared.Walk.{Walk}
@@ -43,7 +42,9 @@ use Rattle.checker.specs.declared.Fresh.{Fresh}
 use Rattle.checker.specs.declared.Fresh.the-variants as Fresh
 use Rattle.checker.specs.declared.Closed.{Closed}
 use Rattle.checker.specs.declared.Closed.the-variants as Closed
-use Rattle.checker.specs.Check.{State, Checked, fault, fine, falls, recordsOf}
+use Rattle.checker.specs.declared.Visit.{Visit}
+use Rattle.checker.specs.declared.Visit.the-variants as Visit
+use Rattle.checker.specs.Check.{State, Checked, fault, fine, marked, falls, recordsOf}
 
 -- no key: 24; key: 9, 18
 abbrev pub named : FileName → Judged
@@ -123,7 +124,26 @@ abbrev pub closes : Memory → (table : List ℕ) → Walk → Sound → Bool �
 closes m table w e true = Closed.Done (Outcome.Fine w)
 closes m table w e false =
     cond (falls (fileNames table) (beforeOf m (w .before)) (nameAt m (e .place))) (Closed.Done (Outcome.Fault NameFalls (w .count)))
-    (Closed.Onward (walkOf (w .count) (Before.Name (e .place))))
+    (Closed.Onward (walkOf (w .count) (Before.Name (e .place))) (e .next))
+
+-- a subnode's fault is the node's too
+abbrev pub closesFork : Memory → (table : List ℕ) → (below : Outcome) → Sound → Closed
+closesFork m table (Outcome.Fine w) e = closes m table w e (e .last)
+closesFork m table (Outcome.Fault r count) e = Closed.Done (Outcome.Fault r count)
+
+-- an entry by its judgement: one without a subnode is closed at once, and a subnode is opened
+abbrev pub visitClosed : Closed → Visit
+visitClosed (Closed.Done o) = Visit.Done o
+visitClosed (Closed.Onward w next) = Visit.Onward w next
+
+abbrev pub visitFresh : (count : ℕ) → Sound → Fresh → Visit
+visitFresh count e (Fresh.Refused r) = Visit.Done (Outcome.Fault r count)
+visitFresh count e (Fresh.Record number view) = Visit.Fork e number view
+
+abbrev pub visitOf : Memory → (table marks : List ℕ) (left : ℕ) → Walk → Judgement → Visit
+visitOf m table marks left w (Judgement.Fault r) = Visit.Done (Outcome.Fault r (w .count))
+visitOf m table marks left w (Judgement.Leaf e) = visitClosed (closes m table w e (e .last))
+visitOf m table marks left w (Judgement.Fork e vcn) = visitFresh (w .count) e (freshSays m vcn (opening (dirOf m) left false (marked marks) vcn))
 
 -- how many marks are set
 unfoldable pub ones : List ℕ → ℕ
@@ -132,4 +152,7 @@ ones (b ∷ bs) = cond (eqb b 1) (suc (ones bs)) (ones bs)
 
 -- every record that a VCN leads to has its mark, and a number counts the marks
 unfoldable pub Inside : Memory → List ℕ → Type 0
-Inside m marks = (recordsOf m ≤ length marks) × (length marks ≤ 18446744073709551615) × ((vcn : ℤ) (number : ℕ) → placed m vcn ≡ Lies.Record number → number < recordsOf m)
+Inside m marks =
+    (recordsOf m ≤ length marks) ×
+    (length marks ≤ 18446744073709551615) ×
+    ((vcn : ℤ) (number : ℕ) → placed m vcn ≡ Lies.Record number → number < recordsOf m)

@@ -1,6 +1,6 @@
 // The checker: what lets an installer trust a stick.
 ghost use mathlib.Core.Path.{_≡_};
-ghost use Prim.Native.Nat.{suc, _≤_};
+ghost use Prim.Native.Nat.{suc, _+_, _≤_, _<_};
 ghost use mathlib.Core.Bool.{false};
 ghost use lib.ListN.{length, drop, set};
 ghost use Rattle.upcase_table.specs.Names.{tableUnits};
@@ -12,9 +12,9 @@ ghost use Rattle.index_node.specs.Memory.{memory, placeBytes};
 ghost use Rattle.index_node.specs.Node.{viewOf};
 ghost use Rattle.index.specs.Entries.{lookIn, entriesAt};
 ghost use Rattle.index.specs.Walk.{dirOf, opening};
-ghost use Rattle.index_finder.specs.Kind.{fileNames, keyRead};
+ghost use Rattle.index_finder.specs.Kind.{fileNames};
 ghost use Rattle.checker.specs.Check.{marked, falls, check, recordsOf, cleared, walked, checker};
-ghost use Rattle.checker.specs.Turn.{keySound, withSub, judgeOf, freshSays, nameAt, beforeOf, closes, stateOf, checkedSays, countOf, ones, Inside};
+ghost use Rattle.checker.specs.Turn.{keySound, withSub, judgeOf, freshSays, nameAt, beforeOf, walkOf, closes, closesFork, visitOf, stateOf, checkedSays, countOf, ones, Inside};
 use file_name::FileName;
 use index_allocation::Lies;
 use index_entry::KeyPart;
@@ -77,7 +77,21 @@ enum Fresh {
 // After an entry and its subnode: the node is done, or goes on.
 enum Closed {
     Done(Outcome),
-    Onward(Walk),
+    Onward { walk: Walk, next: usize },
+}
+
+// What an entry comes to: the node is done, or goes on; or its subnode comes first, by a record not reached before.
+enum Visit {
+    Done(Outcome),
+    Onward {
+        walk: Walk,
+        next: usize,
+    },
+    Fork {
+        entry: Sound,
+        number: usize,
+        sub: View,
+    },
 }
 
 // No key: 24; key: 9, 18.
@@ -229,6 +243,7 @@ fn close_entry<'a>(
     let count = walk.count;
     let before = walk.before;
     let place = entry.place;
+    let next = entry.next;
     if entry.last {
         return Closed::Done(Outcome::Fine(walk));
     }
@@ -238,10 +253,76 @@ fn close_entry<'a>(
             count,
         });
     }
-    Closed::Onward(Walk {
-        count,
-        before: Before::Name(place),
-    })
+    Closed::Onward {
+        walk: Walk {
+            count,
+            before: Before::Name(place),
+        },
+        next,
+    }
+}
+
+// After an entry's subnode: its fault is the node's too.
+fn close_fork<'a>(
+    root: &'a [u8],
+    pool: &'a [u8],
+    cluster: usize,
+    table: &[u16],
+    below: Outcome,
+    entry: Sound,
+) -> Closed
+    requires { ⌜ length (now table) ≡ tableUnits ⌝ }
+    ensures { λ r. ⌜ r ≡ closesFork (memory (now (root .entry)) (now (pool .entry)) cluster) (now (table .entry)) below entry ⌝ }
+{
+    match below {
+        Outcome::Fault { refusal, count } => Closed::Done(Outcome::Fault { refusal, count }),
+        Outcome::Fine(walk) => close_entry(root, pool, cluster, table, walk, entry),
+    }
+}
+
+// An entry of a node, lent as its bytes: one without a subnode is closed at once.
+fn visit_entry<'a>(
+    root: &'a [u8],
+    pool: &'a [u8],
+    cluster: usize,
+    table: &[u16],
+    marks: &[u8],
+    bytes: &'a [u8],
+    node: View,
+    at: usize,
+    left: usize,
+    walk: Walk,
+) -> Visit
+    requires { ⌜ length (now table) ≡ tableUnits ⌝ }
+    ensures { λ r. ⌜ r ≡ visitOf (memory (now (root .entry)) (now (pool .entry)) cluster) (now (table .entry)) (now (marks .entry)) left walk (judgeOf (lookIn (now (bytes .entry)) node at)) ⌝ }
+{
+    let count = walk.count;
+    match judge_entry(bytes, node, at) {
+        Judgement::Fault(refusal) => Visit::Done(Outcome::Fault { refusal, count }),
+        Judgement::Leaf(entry) => match close_entry(root, pool, cluster, table, walk, entry) {
+            Closed::Done(outcome) => Visit::Done(outcome),
+            Closed::Onward { walk, next } => Visit::Onward { walk, next },
+        },
+        Judgement::Fork { entry, vcn } => match open_fresh(root, pool, cluster, marks, left, vcn) {
+            Fresh::Refused(refusal) => Visit::Done(Outcome::Fault { refusal, count }),
+            Fresh::Record { number, view: sub } => Visit::Fork { entry, number, sub },
+        },
+    }
+}
+
+// A record reached is marked and counted.
+fn reach_record(marks: &mut [u8], number: usize, walk: Walk) -> Walk
+    requires { ⌜ (number < length (now marks)) × (walk .count < 18446744073709551615) ⌝ }
+    ensures { λ r. ⌜ r ≡ walkOf (walk .count + 1) (walk .before) ⌝ }
+    ensures { λ _. ⌜ now (marks .exit) ≡ set (now (marks .entry)) number 1 ⌝ }
+{
+    let count = walk.count;
+    let before = walk.before;
+    marks[number] = 1;
+    Walk {
+        count: count + 1,
+        before,
+    }
 }
 
 // A node and what lies below it, entry by entry; it calls itself for a subnode with one level fewer.
@@ -264,44 +345,20 @@ fn check_node<'a>(
     let mut at = node.start;
     let mut w = walk;
     loop {
-        let count = w.count;
-        let before = w.before;
-        match judge_entry(bytes, node, at) {
-            Judgement::Fault(refusal) => return Outcome::Fault { refusal, count },
-            Judgement::Leaf(entry) => {
-                let next = entry.next;
-                match close_entry(root, pool, cluster, table, w, entry) {
-                    Closed::Done(outcome) => return outcome,
-                    Closed::Onward(x) => {
-                        w = x;
-                        at = next;
-                    }
-                }
+        match visit_entry(root, pool, cluster, table, marks, bytes, node, at, left, w) {
+            Visit::Done(outcome) => return outcome,
+            Visit::Onward { walk, next } => {
+                w = walk;
+                at = next;
             }
-            Judgement::Fork { entry, vcn } => {
-                let next = entry.next;
-                match open_fresh(root, pool, cluster, marks, left, vcn) {
-                    Fresh::Refused(refusal) => return Outcome::Fault { refusal, count },
-                    Fresh::Record { number, view } => {
-                        marks[number] = 1;
-                        let below = Walk {
-                            count: count + 1,
-                            before,
-                        };
-                        match check_node(root, pool, cluster, table, marks, view, left - 1, below) {
-                            Outcome::Fault { refusal, count } => {
-                                return Outcome::Fault { refusal, count };
-                            }
-                            Outcome::Fine(after) => {
-                                match close_entry(root, pool, cluster, table, after, entry) {
-                                    Closed::Done(outcome) => return outcome,
-                                    Closed::Onward(x) => {
-                                        w = x;
-                                        at = next;
-                                    }
-                                }
-                            }
-                        }
+            Visit::Fork { entry, number, sub } => {
+                let reached = reach_record(marks, number, w);
+                let below = check_node(root, pool, cluster, table, marks, sub, left - 1, reached);
+                match close_fork(root, pool, cluster, table, below, entry) {
+                    Closed::Done(outcome) => return outcome,
+                    Closed::Onward { walk, next } => {
+                        w = walk;
+                        at = next;
                     }
                 }
             }
