@@ -57,9 +57,9 @@ module _ {table : List ℕ} {m : Memory} {node : View} {left : ℕ} {marks₀ : 
   abbrev Later : List ℕ → Walk → ℕ → Type 0
   Later after v n = Round table m node left marks₀ w₀ bytes after v n × (at < n) × (at < node .used)
 
-  module _ {visit : Visit} (told : visit ≡ visitOf m table marks left w (judgeOf (lookIn bytes node at))) where
+  module _ {visit : Visit} (told : visit ≡ visitOf m table node marks left w (judgeOf (lookIn bytes node at))) where
     abbrev shown : (v : Visit) → Type 0
-    shown v = v ≡ visitOf m table marks left w (judgeOf (lookIn (viewBytes (m .root) (m .pool) node) node at))
+    shown v = v ≡ visitOf m table node marks left w (judgeOf (lookIn (viewBytes (m .root) (m .pool) node) node at))
 
     shows : (v : Visit) → visit ≡ v → shown v
     shows v h = sym h ∙ rw (s .is-bytes) at told
@@ -102,7 +102,7 @@ module _ {table : List ℕ} {m : Memory} {node : View} {left : ℕ} {marks₀ : 
           below-beyond : drop (recordsOf m) after ≡ drop (recordsOf m) marks₀
           below-beyond = came .1 .0 ∙ rw marks-it (drop-set (recordsOf m) marks number 1 (round-mark .inside)) ∙ s .beyond
 
-          module _ {closed : Closed} (ends : closed ≡ closesFork m table o x) where
+          module _ {closed : Closed} (ends : closed ≡ closesFork (m .root) (m .pool) table node o x) where
             pub below-done : (u : Outcome) → closed ≡ Closed.Done u → Answers table m node left marks₀ w₀ u after
             below-done u c =
                 let d = fork-done (s .checks) round-fork o after (rw (counts, marks-it) at (came .0)) u (sym c ∙ ends) in

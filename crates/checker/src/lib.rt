@@ -8,19 +8,18 @@ ghost use Rattle.index_entry.specs.Entry.{keyOf, subnodeOf, subnodeSays};
 ghost use Rattle.index_node.specs.declared.Viewed.the-variants as Viewed;
 ghost use Rattle.refusal.specs.Part.{bytesOf};
 ghost use Rattle.file_name.specs.Name.{nameOf};
-ghost use Rattle.index_node.specs.Memory.{memory, placeBytes};
+ghost use Rattle.index_node.specs.Memory.{memory};
 ghost use Rattle.index_node.specs.Node.{viewOf};
 ghost use Rattle.index.specs.Entries.{lookIn, entriesAt};
 ghost use Rattle.index.specs.Walk.{dirOf, opening};
 ghost use Rattle.index_finder.specs.Kind.{fileNames};
 ghost use Rattle.checker.specs.Check.{marked, falls, check, recordsOf, cleared, walked, checker};
-ghost use Rattle.checker.specs.Turn.{keySound, withSub, judgeOf, freshSays, nameAt, beforeOf, walkOf, closes, closesFork, visitOf, stateOf, checkedSays, countOf, ones, Inside};
+ghost use Rattle.checker.specs.Turn.{keySound, withSub, judgeOf, freshSays, spotBytes, nameAt, beforeOf, walkOf, closes, closesFork, visitOf, stateOf, checkedSays, countOf, ones, Inside};
 use file_name::FileName;
 use index_allocation::Lies;
 use index_entry::KeyPart;
 use index_entry::Subnode;
 use index_node::Node;
-use index_node::Place;
 use index_node::View;
 use index_node::Viewed;
 use index_root::Judged;
@@ -38,10 +37,16 @@ pub enum Checking {
     Refused { refusal: Refusal, opened: u64 },
 }
 
-// The name listed last, by its entry's place.
+// Where an entry stands: its node as it was opened, so that no VCN is placed again to read its name, and its start there.
+struct Spot {
+    pub node: View,
+    pub at: usize,
+}
+
+// The name listed last, by where its entry stands.
 enum Before {
     Nothing,
-    Name(Place),
+    Name(Spot),
 }
 
 struct Walk {
@@ -56,7 +61,7 @@ enum Outcome {
 
 // An entry that shows no fault by itself.
 struct Sound {
-    pub place: Place,
+    pub at: usize,
     pub next: usize,
     pub last: bool,
 }
@@ -132,7 +137,7 @@ fn judge_entry(bytes: &[u8], view: View, at: usize) -> Judgement
             let entry = index_entry::entry_bytes(bytes, at);
             let next = at + place.size;
             let last = index_entry::is_last_entry(entry);
-            let judged = judge_sub(entry, Sound { place, next, last });
+            let judged = judge_sub(entry, Sound { at, next, last });
             if view.used < next {
                 return Judgement::Fault(Refusal::NodeEnd);
             }
@@ -191,31 +196,25 @@ fn is_marked(marks: &[u8], number: usize) -> bool
     false
 }
 
-// The name of an entry, by its place.
-fn name_at<'a>(root: &'a [u8], pool: &'a [u8], cluster: usize, place: Place) -> &'a [u8]
-    ensures { λ r. ⌜ now r ≡ nameOf (bytesOf (keyOf (placeBytes (memory (now (root .entry)) (now (pool .entry)) cluster) place))) ⌝ }
+// The name of an entry, by where it stands.
+fn name_at<'a>(root: &'a [u8], pool: &'a [u8], spot: Spot) -> &'a [u8]
+    ensures { λ r. ⌜ now r ≡ nameOf (bytesOf (keyOf (spotBytes (now (root .entry)) (now (pool .entry)) spot))) ⌝ }
 {
-    let entry = index_node::place_bytes(root, pool, cluster, place);
+    let bytes = index_node::node_bytes(root, pool, spot.node);
+    let entry = index_entry::entry_bytes(bytes, spot.at);
     file_name::name(index_entry::key_bytes(entry))
 }
 
 // 25: less than the name listed before it.
-fn name_falls<'a>(
-    root: &'a [u8],
-    pool: &'a [u8],
-    cluster: usize,
-    table: &[u16],
-    before: Before,
-    place: Place,
-) -> bool
+fn name_falls<'a>(root: &'a [u8], pool: &'a [u8], table: &[u16], before: Before, spot: Spot) -> bool
     requires { ⌜ length (now table) ≡ tableUnits ⌝ }
-    ensures { λ r. ⌜ r ≡ falls (fileNames (now (table .entry))) (beforeOf (memory (now (root .entry)) (now (pool .entry)) cluster) before) (nameAt (memory (now (root .entry)) (now (pool .entry)) cluster) place) ⌝ }
+    ensures { λ r. ⌜ r ≡ falls (fileNames (now (table .entry))) (beforeOf (now (root .entry)) (now (pool .entry)) before) (nameAt (now (root .entry)) (now (pool .entry)) spot) ⌝ }
 {
     match before {
         Before::Nothing => false,
         Before::Name(earlier) => {
-            let name = name_at(root, pool, cluster, place);
-            let other = name_at(root, pool, cluster, earlier);
+            let name = name_at(root, pool, spot);
+            let other = name_at(root, pool, earlier);
             match upcase_table::upcase_cmp_keys(table, name, other) {
                 Compared::Refused(_) => false,
                 Compared::Ordered(order) => match order {
@@ -232,22 +231,23 @@ fn name_falls<'a>(
 fn close_entry<'a>(
     root: &'a [u8],
     pool: &'a [u8],
-    cluster: usize,
     table: &[u16],
+    node: View,
     walk: Walk,
     entry: Sound,
 ) -> Closed
     requires { ⌜ length (now table) ≡ tableUnits ⌝ }
-    ensures { λ r. ⌜ r ≡ closes (memory (now (root .entry)) (now (pool .entry)) cluster) (now (table .entry)) walk entry (entry .last) ⌝ }
+    ensures { λ r. ⌜ r ≡ closes (now (root .entry)) (now (pool .entry)) (now (table .entry)) node walk entry (entry .last) ⌝ }
 {
     let count = walk.count;
     let before = walk.before;
-    let place = entry.place;
+    let at = entry.at;
     let next = entry.next;
+    let spot = Spot { node, at };
     if entry.last {
         return Closed::Done(Outcome::Fine(walk));
     }
-    if name_falls(root, pool, cluster, table, before, place) {
+    if name_falls(root, pool, table, before, spot) {
         return Closed::Done(Outcome::Fault {
             refusal: Refusal::NameFalls,
             count,
@@ -256,7 +256,7 @@ fn close_entry<'a>(
     Closed::Onward {
         walk: Walk {
             count,
-            before: Before::Name(place),
+            before: Before::Name(spot),
         },
         next,
     }
@@ -266,17 +266,17 @@ fn close_entry<'a>(
 fn close_fork<'a>(
     root: &'a [u8],
     pool: &'a [u8],
-    cluster: usize,
     table: &[u16],
+    node: View,
     below: Outcome,
     entry: Sound,
 ) -> Closed
     requires { ⌜ length (now table) ≡ tableUnits ⌝ }
-    ensures { λ r. ⌜ r ≡ closesFork (memory (now (root .entry)) (now (pool .entry)) cluster) (now (table .entry)) below entry ⌝ }
+    ensures { λ r. ⌜ r ≡ closesFork (now (root .entry)) (now (pool .entry)) (now (table .entry)) node below entry ⌝ }
 {
     match below {
         Outcome::Fault { refusal, count } => Closed::Done(Outcome::Fault { refusal, count }),
-        Outcome::Fine(walk) => close_entry(root, pool, cluster, table, walk, entry),
+        Outcome::Fine(walk) => close_entry(root, pool, table, node, walk, entry),
     }
 }
 
@@ -294,12 +294,12 @@ fn visit_entry<'a>(
     walk: Walk,
 ) -> Visit
     requires { ⌜ length (now table) ≡ tableUnits ⌝ }
-    ensures { λ r. ⌜ r ≡ visitOf (memory (now (root .entry)) (now (pool .entry)) cluster) (now (table .entry)) (now (marks .entry)) left walk (judgeOf (lookIn (now (bytes .entry)) node at)) ⌝ }
+    ensures { λ r. ⌜ r ≡ visitOf (memory (now (root .entry)) (now (pool .entry)) cluster) (now (table .entry)) node (now (marks .entry)) left walk (judgeOf (lookIn (now (bytes .entry)) node at)) ⌝ }
 {
     let count = walk.count;
     match judge_entry(bytes, node, at) {
         Judgement::Fault(refusal) => Visit::Done(Outcome::Fault { refusal, count }),
-        Judgement::Leaf(entry) => match close_entry(root, pool, cluster, table, walk, entry) {
+        Judgement::Leaf(entry) => match close_entry(root, pool, table, node, walk, entry) {
             Closed::Done(outcome) => Visit::Done(outcome),
             Closed::Onward { walk, next } => Visit::Onward { walk, next },
         },
@@ -354,7 +354,7 @@ fn check_node<'a>(
             Visit::Fork { entry, number, sub } => {
                 let reached = reach_record(marks, number, w);
                 let below = check_node(root, pool, cluster, table, marks, sub, left - 1, reached);
-                match close_fork(root, pool, cluster, table, below, entry) {
+                match close_fork(root, pool, table, node, below, entry) {
                     Closed::Done(outcome) => return outcome,
                     Closed::Onward { walk, next } => {
                         w = walk;
