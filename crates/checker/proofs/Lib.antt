@@ -4,6 +4,7 @@ pub mod Marks
 pub mod Opening
 pub mod Pass
 pub mod Reached
+pub mod Rounds
 pub mod Soundness
 pub mod Steps
 pub mod Told

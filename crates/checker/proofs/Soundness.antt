@@ -19,7 +19,8 @@ use Rattle.index_finder.specs.Kind.{Kind, keyRead}
 use Rattle.index_finder.specs.Sorted.{After}
 use Rattle.index_finder.specs.Tree.{Opens, Leads, Tree, out, end, down, leaf, fork}
 use Rattle.index_finder.proofs.Search.{tall}
-use Rattle.checker.specs.Check.{State, Checked, fault, fine, onward, marked, enters, lists, falls, listed, checkSub, checkLast, checkKey, checkNext, checkIn, check}
+use Rattle.checker.specs.Check.{State, Checked, fault, fine, onward, marked, enters, lists, falls, listed}
+use Rattle.checker.specs.Check.{checkSub, checkLast, checkKey, checkNext, checkIn, check}
 use Rattle.checker.proofs.Tree.{Closed}
 
 faulty : {K : Type 0} {r : Refusal} {c : ℕ} {s : State K} → fault r c ≡ fine s → ⊥

@@ -16,7 +16,8 @@ use Rattle.index.specs.Listing.{Listing, list}
 use Rattle.index_finder.specs.Kind.{Kind, keyRead}
 use Rattle.index_finder.specs.Tree.{Leads, Tree, out, end, down, leaf, fork, items, keys, Lists, lists-none, lists-one}
 use Rattle.index_finder.proofs.Search.{opens-suc, tall, lists-tree}
-use Rattle.checker.specs.Fit.{Has, at-last, at-next, later, yielded, keysOf, Down, here, into, AtMost, reachedSub, reachedIn, reached, SubFine, Well, AllWell, listedKeys}
+use Rattle.checker.specs.Fit.{Has, at-last, at-next, later, yielded, keysOf, Down, here, into, AtMost}
+use Rattle.checker.specs.Fit.{reachedSub, reachedIn, reached, SubFine, Well, AllWell, listedKeys}
 
 module _ (d : Dir) where
   pub reach-sub : {r s : ℕ} {m : Entries} {p : Part ℤ} → Leads d p r s m → (f : Entries → List ℕ) → reachedSub d f p ≡ r ∷ f m

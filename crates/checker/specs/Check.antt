@@ -18,7 +18,7 @@ use Rattle.index_node.specs.declared.Viewed.{Viewed}
 use Rattle.index_node.specs.declared.Viewed.the-variants as Viewed
 use Rattle.index_node.specs.Memory.{Memory}
 use Rattle.index_node.specs.Node.{viewOf}
-use Rattle.index.specs.Entries.{Entry, Entries, over, broken, last, next, entriesAt}
+use Rattle.index.specs.Entries.{Entries, over, broken, last, next, entriesAt}
 use Rattle.index.specs.Walk.{levels, Dir, dirOf, Opened, declined, opened, opening}
 use Rattle.index_finder.specs.Kind.{Kind, keyRead, fileNames}
 use Rattle.checker.specs.declared.Checking.{Checking}

@@ -1,6 +1,6 @@
 // The checker: what lets an installer trust a stick.
 ghost use mathlib.Core.Path.{_≡_};
-ghost use Prim.Native.Nat.{suc, _≤_};
+ghost use Prim.Native.Nat.{suc, _+_, _≤_, _<_};
 ghost use mathlib.Core.Bool.{false};
 ghost use lib.ListN.{length, drop, set};
 ghost use Rattle.upcase_table.specs.Names.{tableUnits};
@@ -8,19 +8,18 @@ ghost use Rattle.index_entry.specs.Entry.{keyOf, subnodeOf, subnodeSays};
 ghost use Rattle.index_node.specs.declared.Viewed.the-variants as Viewed;
 ghost use Rattle.refusal.specs.Part.{bytesOf};
 ghost use Rattle.file_name.specs.Name.{nameOf};
-ghost use Rattle.index_node.specs.Memory.{memory, placeBytes};
+ghost use Rattle.index_node.specs.Memory.{memory};
 ghost use Rattle.index_node.specs.Node.{viewOf};
 ghost use Rattle.index.specs.Entries.{lookIn, entriesAt};
 ghost use Rattle.index.specs.Walk.{dirOf, opening};
-ghost use Rattle.index_finder.specs.Kind.{fileNames, keyRead};
+ghost use Rattle.index_finder.specs.Kind.{fileNames};
 ghost use Rattle.checker.specs.Check.{marked, falls, check, recordsOf, cleared, walked, checker};
-ghost use Rattle.checker.specs.Turn.{keySound, withSub, judgeOf, freshSays, nameAt, beforeOf, closes, stateOf, checkedSays, countOf, ones, Inside};
+ghost use Rattle.checker.specs.Turn.{keySound, withSub, judgeOf, freshSays, spotBytes, nameAt, beforeOf, walkOf, closes, closesFork, visitOf, stateOf, checkedSays, countOf, ones, Inside};
 use file_name::FileName;
 use index_allocation::Lies;
 use index_entry::KeyPart;
 use index_entry::Subnode;
 use index_node::Node;
-use index_node::Place;
 use index_node::View;
 use index_node::Viewed;
 use index_root::Judged;
@@ -38,10 +37,16 @@ pub enum Checking {
     Refused { refusal: Refusal, opened: u64 },
 }
 
-// The name listed last, by its entry's place.
+// Where an entry stands: its node as it was opened, so that no VCN is placed again to read its name, and its start there.
+struct Spot {
+    pub node: View,
+    pub at: usize,
+}
+
+// The name listed last, by where its entry stands.
 enum Before {
     Nothing,
-    Name(Place),
+    Name(Spot),
 }
 
 struct Walk {
@@ -56,7 +61,7 @@ enum Outcome {
 
 // An entry that shows no fault by itself.
 struct Sound {
-    pub place: Place,
+    pub at: usize,
     pub next: usize,
     pub last: bool,
 }
@@ -77,7 +82,21 @@ enum Fresh {
 // After an entry and its subnode: the node is done, or goes on.
 enum Closed {
     Done(Outcome),
-    Onward(Walk),
+    Onward { walk: Walk, next: usize },
+}
+
+// What an entry comes to: the node is done, or goes on; or its subnode comes first, by a record not reached before.
+enum Visit {
+    Done(Outcome),
+    Onward {
+        walk: Walk,
+        next: usize,
+    },
+    Fork {
+        entry: Sound,
+        number: usize,
+        sub: View,
+    },
 }
 
 // No key: 24; key: 9, 18.
@@ -118,7 +137,7 @@ fn judge_entry(bytes: &[u8], view: View, at: usize) -> Judgement
             let entry = index_entry::entry_bytes(bytes, at);
             let next = at + place.size;
             let last = index_entry::is_last_entry(entry);
-            let judged = judge_sub(entry, Sound { place, next, last });
+            let judged = judge_sub(entry, Sound { at, next, last });
             if view.used < next {
                 return Judgement::Fault(Refusal::NodeEnd);
             }
@@ -177,31 +196,25 @@ fn is_marked(marks: &[u8], number: usize) -> bool
     false
 }
 
-// The name of an entry, by its place.
-fn name_at<'a>(root: &'a [u8], pool: &'a [u8], cluster: usize, place: Place) -> &'a [u8]
-    ensures { λ r. ⌜ now r ≡ nameOf (bytesOf (keyOf (placeBytes (memory (now (root .entry)) (now (pool .entry)) cluster) place))) ⌝ }
+// The name of an entry, by where it stands.
+fn name_at<'a>(root: &'a [u8], pool: &'a [u8], spot: Spot) -> &'a [u8]
+    ensures { λ r. ⌜ now r ≡ nameOf (bytesOf (keyOf (spotBytes (now (root .entry)) (now (pool .entry)) spot))) ⌝ }
 {
-    let entry = index_node::place_bytes(root, pool, cluster, place);
+    let bytes = index_node::node_bytes(root, pool, spot.node);
+    let entry = index_entry::entry_bytes(bytes, spot.at);
     file_name::name(index_entry::key_bytes(entry))
 }
 
 // 25: less than the name listed before it.
-fn name_falls<'a>(
-    root: &'a [u8],
-    pool: &'a [u8],
-    cluster: usize,
-    table: &[u16],
-    before: Before,
-    place: Place,
-) -> bool
+fn name_falls<'a>(root: &'a [u8], pool: &'a [u8], table: &[u16], before: Before, spot: Spot) -> bool
     requires { ⌜ length (now table) ≡ tableUnits ⌝ }
-    ensures { λ r. ⌜ r ≡ falls (fileNames (now (table .entry))) (beforeOf (memory (now (root .entry)) (now (pool .entry)) cluster) before) (nameAt (memory (now (root .entry)) (now (pool .entry)) cluster) place) ⌝ }
+    ensures { λ r. ⌜ r ≡ falls (fileNames (now (table .entry))) (beforeOf (now (root .entry)) (now (pool .entry)) before) (nameAt (now (root .entry)) (now (pool .entry)) spot) ⌝ }
 {
     match before {
         Before::Nothing => false,
         Before::Name(earlier) => {
-            let name = name_at(root, pool, cluster, place);
-            let other = name_at(root, pool, cluster, earlier);
+            let name = name_at(root, pool, spot);
+            let other = name_at(root, pool, earlier);
             match upcase_table::upcase_cmp_keys(table, name, other) {
                 Compared::Refused(_) => false,
                 Compared::Ordered(order) => match order {
@@ -218,30 +231,98 @@ fn name_falls<'a>(
 fn close_entry<'a>(
     root: &'a [u8],
     pool: &'a [u8],
-    cluster: usize,
     table: &[u16],
+    node: View,
     walk: Walk,
     entry: Sound,
 ) -> Closed
     requires { ⌜ length (now table) ≡ tableUnits ⌝ }
-    ensures { λ r. ⌜ r ≡ closes (memory (now (root .entry)) (now (pool .entry)) cluster) (now (table .entry)) walk entry (entry .last) ⌝ }
+    ensures { λ r. ⌜ r ≡ closes (now (root .entry)) (now (pool .entry)) (now (table .entry)) node walk entry (entry .last) ⌝ }
 {
     let count = walk.count;
     let before = walk.before;
-    let place = entry.place;
+    let at = entry.at;
+    let next = entry.next;
+    let spot = Spot { node, at };
     if entry.last {
         return Closed::Done(Outcome::Fine(walk));
     }
-    if name_falls(root, pool, cluster, table, before, place) {
+    if name_falls(root, pool, table, before, spot) {
         return Closed::Done(Outcome::Fault {
             refusal: Refusal::NameFalls,
             count,
         });
     }
-    Closed::Onward(Walk {
-        count,
-        before: Before::Name(place),
-    })
+    Closed::Onward {
+        walk: Walk {
+            count,
+            before: Before::Name(spot),
+        },
+        next,
+    }
+}
+
+// After an entry's subnode: its fault is the node's too.
+fn close_fork<'a>(
+    root: &'a [u8],
+    pool: &'a [u8],
+    table: &[u16],
+    node: View,
+    below: Outcome,
+    entry: Sound,
+) -> Closed
+    requires { ⌜ length (now table) ≡ tableUnits ⌝ }
+    ensures { λ r. ⌜ r ≡ closesFork (now (root .entry)) (now (pool .entry)) (now (table .entry)) node below entry ⌝ }
+{
+    match below {
+        Outcome::Fault { refusal, count } => Closed::Done(Outcome::Fault { refusal, count }),
+        Outcome::Fine(walk) => close_entry(root, pool, table, node, walk, entry),
+    }
+}
+
+// An entry of a node, lent as its bytes: one without a subnode is closed at once.
+fn visit_entry<'a>(
+    root: &'a [u8],
+    pool: &'a [u8],
+    cluster: usize,
+    table: &[u16],
+    marks: &[u8],
+    bytes: &'a [u8],
+    node: View,
+    at: usize,
+    left: usize,
+    walk: Walk,
+) -> Visit
+    requires { ⌜ length (now table) ≡ tableUnits ⌝ }
+    ensures { λ r. ⌜ r ≡ visitOf (memory (now (root .entry)) (now (pool .entry)) cluster) (now (table .entry)) node (now (marks .entry)) left walk (judgeOf (lookIn (now (bytes .entry)) node at)) ⌝ }
+{
+    let count = walk.count;
+    match judge_entry(bytes, node, at) {
+        Judgement::Fault(refusal) => Visit::Done(Outcome::Fault { refusal, count }),
+        Judgement::Leaf(entry) => match close_entry(root, pool, table, node, walk, entry) {
+            Closed::Done(outcome) => Visit::Done(outcome),
+            Closed::Onward { walk, next } => Visit::Onward { walk, next },
+        },
+        Judgement::Fork { entry, vcn } => match open_fresh(root, pool, cluster, marks, left, vcn) {
+            Fresh::Refused(refusal) => Visit::Done(Outcome::Fault { refusal, count }),
+            Fresh::Record { number, view: sub } => Visit::Fork { entry, number, sub },
+        },
+    }
+}
+
+// A record reached is marked and counted.
+fn reach_record(marks: &mut [u8], number: usize, walk: Walk) -> Walk
+    requires { ⌜ (number < length (now marks)) × (walk .count < 18446744073709551615) ⌝ }
+    ensures { λ r. ⌜ r ≡ walkOf (walk .count + 1) (walk .before) ⌝ }
+    ensures { λ _. ⌜ now (marks .exit) ≡ set (now (marks .entry)) number 1 ⌝ }
+{
+    let count = walk.count;
+    let before = walk.before;
+    marks[number] = 1;
+    Walk {
+        count: count + 1,
+        before,
+    }
 }
 
 // A node and what lies below it, entry by entry; it calls itself for a subnode with one level fewer.
@@ -264,44 +345,20 @@ fn check_node<'a>(
     let mut at = node.start;
     let mut w = walk;
     loop {
-        let count = w.count;
-        let before = w.before;
-        match judge_entry(bytes, node, at) {
-            Judgement::Fault(refusal) => return Outcome::Fault { refusal, count },
-            Judgement::Leaf(entry) => {
-                let next = entry.next;
-                match close_entry(root, pool, cluster, table, w, entry) {
-                    Closed::Done(outcome) => return outcome,
-                    Closed::Onward(x) => {
-                        w = x;
-                        at = next;
-                    }
-                }
+        match visit_entry(root, pool, cluster, table, marks, bytes, node, at, left, w) {
+            Visit::Done(outcome) => return outcome,
+            Visit::Onward { walk, next } => {
+                w = walk;
+                at = next;
             }
-            Judgement::Fork { entry, vcn } => {
-                let next = entry.next;
-                match open_fresh(root, pool, cluster, marks, left, vcn) {
-                    Fresh::Refused(refusal) => return Outcome::Fault { refusal, count },
-                    Fresh::Record { number, view } => {
-                        marks[number] = 1;
-                        let below = Walk {
-                            count: count + 1,
-                            before,
-                        };
-                        match check_node(root, pool, cluster, table, marks, view, left - 1, below) {
-                            Outcome::Fault { refusal, count } => {
-                                return Outcome::Fault { refusal, count };
-                            }
-                            Outcome::Fine(after) => {
-                                match close_entry(root, pool, cluster, table, after, entry) {
-                                    Closed::Done(outcome) => return outcome,
-                                    Closed::Onward(x) => {
-                                        w = x;
-                                        at = next;
-                                    }
-                                }
-                            }
-                        }
+            Visit::Fork { entry, number, sub } => {
+                let reached = reach_record(marks, number, w);
+                let below = check_node(root, pool, cluster, table, marks, sub, left - 1, reached);
+                match close_fork(root, pool, table, node, below, entry) {
+                    Closed::Done(outcome) => return outcome,
+                    Closed::Onward { walk, next } => {
+                        w = walk;
+                        at = next;
                     }
                 }
             }

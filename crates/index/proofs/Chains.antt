@@ -1,27 +1,26 @@
 -- What an entry that a walk meets tells of its node, and a node's entries unrolled by one.
 -- The fuel of the entries occurs here and nowhere else.
 use Prim.Native.Nat.{ℕ, zero, suc, _-_, _<_}
-use mathlib.Core.Path.{_≡_, refl, sym, ap, _∙_}
+use mathlib.Core.Path.{_≡_, refl, ap, _∙_}
 use mathlib.Core.Bool.{Bool, true, false}
-use mathlib.Core.List.{List}
 use native.Mathlib.Omega.{arith}
 use borrow.Author.Tests.{ltb-true}
 use lib.Dec.{ltb}
 use Rattle.logic.proofs.Cases.{it, look}
 use Rattle.refusal.specs.Part.{Part, absent, refused, present}
-use Rattle.index_entry.specs.Entry.{entryAt, keyOf}
+use Rattle.index_entry.specs.Entry.{entryAt}
 use Rattle.index_entry.proofs.Laws.{entered, last-keyless}
 use Rattle.index_node.specs.declared.Node.{Node}
 use Rattle.index_node.specs.declared.View.{View}
 use Rattle.index_node.specs.declared.Viewed.{Viewed}
 use Rattle.index_node.specs.declared.Viewed.the-variants as Viewed
-use Rattle.index_node.specs.Memory.{Memory, viewBytes, placeBytes}
+use Rattle.index_node.specs.Memory.{Memory, viewBytes}
 use Rattle.index_node.specs.Node.{viewOf}
-use Rattle.index_node.proofs.Laws.{opened, place-is-entry}
+use Rattle.index_node.proofs.Laws.{opened}
 use Rattle.index.specs.Entries.{Entry, entryOf, metIn, Look, past, bad, met, lookIn, metView, metAt, lookView, lookAt}
 use Rattle.index.specs.Entries.{Entries, next, endOf, rolled, roll, entriesFrom, usedOr, bound, entriesAt}
 
--- an entry met at a position: before the used end, a byte long at least, the same when it is due, its node fine, its place there, a LAST_ENTRY without a key, its key that of the place's bytes
+-- an entry met at a position: before the used end, a byte long at least, the same when it is due, its node fine, its place there, a LAST_ENTRY without a key
 pub record Sees (m : Memory) (node : Node) (at : ℕ) (e : Entry) : Type 0 where
   pub near : at < bound m node
   pub long : 0 < e .place .size
@@ -30,7 +29,6 @@ pub record Sees (m : Memory) (node : Node) (at : ℕ) (e : Entry) : Type 0 where
   pub is-node : e .place .node ≡ node
   pub is-at : e .place .at ≡ at
   pub keyless : e .final ≡ true → e .key ≡ absent
-  pub key-there : e .key ≡ keyOf (placeBytes m (e .place))
 
 -- the same of a node's view
 record SeesIn (m : Memory) (v : Viewed) (at : ℕ) (e : Entry) : Type 0 where
@@ -42,9 +40,6 @@ record SeesIn (m : Memory) (v : Viewed) (at : ℕ) (e : Entry) : Type 0 where
   is-node : e .place .node ≡ view .node
   is-at : e .place .at ≡ at
   keyless : e .final ≡ true → e .key ≡ absent
-  bytes : List ℕ
-  found : entryAt (viewBytes (m .root) (m .pool) view) at ≡ present bytes
-  is-entry : e ≡ entryOf view at bytes
 
 sees-entry : (m : Memory) (view : View) (at : ℕ) (e : Entry) → at < view .used
     → metIn (viewBytes (m .root) (m .pool) view) view at ≡ present e → SeesIn m (Viewed.Fine view) at e
@@ -65,9 +60,6 @@ sees-entry m view at e h d = elim (look (entryAt (viewBytes (m .root) (m .pool) 
         is-node = refl;
         is-at = refl;
         keyless = last-keyless bytes;
-        bytes = bytes;
-        found = p;
-        is-entry = refl;
       })
 ]
 
@@ -86,13 +78,6 @@ sees-view m (Viewed.Fine view) at e h = elim (look (ltb at (view .used))) [
   ]
 ]
 
--- its key is that of the bytes that its place names
-there : (m : Memory) (node : Node) (at : ℕ) (e : Entry) (view : View) (bytes : List ℕ) → viewOf m node ≡ Viewed.Fine view
-    → entryAt (viewBytes (m .root) (m .pool) view) at ≡ present bytes → e ≡ entryOf view at bytes → e .key ≡ keyOf (placeBytes m (e .place))
-there m node at e view bytes v f h =
-    let n = opened m node view v .is-node in
-    rw h (ap keyOf (sym (place-is-entry m (view .node) view at bytes (ap (viewOf m) n ∙ v) f)))
-
 pub sees : (m : Memory) (node : Node) (at : ℕ) (e : Entry) → lookAt m node at ≡ met e → Sees m node at e
 unfolding lookAt metAt bound
 sees m node at e h =
@@ -105,7 +90,6 @@ sees m node at e h =
       is-node = s .is-node ∙ opened m node (s .view) (s .is-view) .is-node;
       is-at = s .is-at;
       keyless = s .keyless;
-      key-there = there m node at e (s .view) (s .bytes) (s .is-view) (s .found) (s .is-entry);
     }
 
 -- an entry that is due is in a node that is fine

@@ -1,8 +1,6 @@
 -- `check`: 19, 1 to 7, 21, each told by its test, with the marks unchanged; then the walk.
 -- Each return puts the tests into the definition.
-use mathlib.Core.Path.{_≡_, refl, sym, _∙_}
-use denote.Ref.{now}
-use native.Mathlib.Omega.{arith}
+use mathlib.Core.Path.{refl, sym, _∙_}
 use borrow.Author.Tests.{eq-eqb, ne-eqb, lt-ltb, le-ltb}
 use Rattle.checker.specs.Check.{checking, checker}
 use borrow.Author.Needs.{needs}
@@ -27,21 +25,44 @@ record-count-requires c κs = search needs
 
 returns-2 : tie.Need-returns-2
 unfolding checker checking
-returns-2 c = rw (eq-eqb _ _ (c .before .before .before .before .before .before .if1 .left), ← c .before .before .before .before .before .open-node .ensures, c .before .before .before .node .given .1, ← c .before .record-count .ensures, lt-ltb _ _ (c .if2 .taken)) (refl, refl)
+returns-2 c =
+    rw (
+      eq-eqb _ _ (c .before .before .before .before .before .before .if1 .left),
+      ← c .before .before .before .before .before .open-node .ensures,
+      c .before .before .before .node .given .1,
+      ← c .before .record-count .ensures,
+      lt-ltb _ _ (c .if2 .taken),
+    ) (refl, refl)
 
 check-walk-requires : tie.Need-check-walk-requires
-check-walk-requires c κs = (c .before .before .before .before .before .before .before .if1 .left, sym (c .before .before .before .before .before .before .open-node .ensures) ∙ c .before .before .before .before .node .given .1, c .before .before .record-count .ensures, c .before .if2 .left, search needs)
+check-walk-requires c κs = (
+  c .before .before .before .before .before .before .before .if1 .left,
+  sym (c .before .before .before .before .before .before .open-node .ensures) ∙
+      c .before .before .before .before .node .given .1,
+  c .before .before .record-count .ensures,
+  c .before .if2 .left,
+  search needs,
+)
 
 returns-3 : tie.Need-returns-3
 unfolding checker checking
-returns-3 c = rw (eq-eqb _ _ (c .before .before .before .before .if1 .left), ← c .before .before .before .open-node .ensures, c .before .refusal .given .1) (refl, refl)
+returns-3 c =
+    rw (eq-eqb _ _ (c .before .before .before .before .if1 .left), ← c .before .before .before .open-node .ensures, c .before .refusal .given .1) (refl, refl)
 
 same-length : tie.Need-same-length
 same-length c = search needs
 
 returns-4 : tie.Need-returns-4
 unfolding checker checking
-returns-4 c = rw (eq-eqb _ _ (c .before .before .before .before .before .before .before .before .before .before .if1 .left), ← c .before .before .before .before .before .before .before .before .before .open-node .ensures, c .before .before .before .before .before .before .before .node .given .1, ← c .before .before .before .before .before .record-count .ensures, le-ltb _ _ (c .before .before .before .before .if2 .left)) (c .before .before .check-walk .ensures)
+returns-4 c =
+    rw (
+      eq-eqb _ _ (c .before .before .before .before .before .before .before .before .before .before .if1 .left),
+      ← c .before .before .before .before .before .before .before .before .before .open-node .ensures,
+      c .before .before .before .before .before .before .before .node .given .1,
+      ← c .before .before .before .before .before .record-count .ensures,
+      le-ltb _ _
+          (c .before .before .before .before .if2 .left),
+    ) (c .before .before .check-walk .ensures)
 
 pub check-spec : {M : Type 1} → statement M
 check-spec =

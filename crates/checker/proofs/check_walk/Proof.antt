@@ -1,6 +1,6 @@
 -- `check_walk`: the walk over cleared marks; a fault clears them again, and those past the records were never touched.
 -- What the callees promise, one after the other.
-use mathlib.Core.Path.{_≡_, sym, ap, _∙_}
+use mathlib.Core.Path.{sym, ap, _∙_}
 use denote.Ref.{now}
 use native.Mathlib.Omega.{arith}
 use Rattle.index_node.specs.Memory.{memory}
@@ -15,12 +15,11 @@ clear-requires : tie.Need-clear-requires
 clear-requires c κs = search needs
 
 check-node-requires : tie.Need-check-node-requires
-check-node-requires c κs = (
-  c .before .before .before .before .before .before .before .before .before .pre .0,
-  root-view (memory (now (c .before .before .before .before .before .before .before .before .before .args .root)) (now (c .before .before .before .before .before .before .before .before .before .args .pool)) (c .before .before .before .before .before .before .before .before .before .args .cluster)) (c .before .before .before .before .before .before .before .before .before .args .node) (c .before .before .before .before .before .before .before .before .before .pre .1),
-  rw (c .before .before .before .clear .ensures) (inside-cleared (memory (now (c .before .before .before .before .before .before .before .before .before .args .root)) (now (c .before .before .before .before .before .before .before .before .before .args .pool)) (c .before .before .before .before .before .before .before .before .before .args .cluster)) (c .before .before .before .before .before .before .before .before .before .args .records) (now (c .before .before .before .before .before .before .before .before .before .args .marks)) (c .before .before .before .before .before .before .before .before .before .pre .2) (c .before .before .before .before .before .before .before .before .before .pre .3) (c .before .before .before .before .before .before .before .before .before .pre .4)),
-  omega arith,
-)
+check-node-requires c κs =
+    let a = c .before .before .before .before .before .before .before .before .before .args in
+    let h = c .before .before .before .before .before .before .before .before .before .pre in
+    let clear = inside-cleared (memory (now (a .root)) (now (a .pool)) (a .cluster)) (a .records) (now (a .marks)) (h .2) (h .3) (h .4) in
+    (h .0, root-view (memory (now (a .root)) (now (a .pool)) (a .cluster)) (a .node) (h .1), rw (c .before .before .before .clear .ensures) clear, omega arith)
 
 enum-known-after : tie.Need-enum-known-after
 enum-known-after c = search needs
@@ -36,8 +35,12 @@ same-length c = search needs
 
 returns : tie.Need-returns
 returns c =
-    let b = rw (c .before .after .given .1) at (rw (c .before .before .before .before .before .before .before .before .before .clear .ensures) at (c .before .before .before .before .before .check-node .ensures .0)) in
-    let p = passes-as (now (c .before .before .before .before .before .before .before .before .before .before .before .before .before .before .before .args .table)) (memory (now (c .before .before .before .before .before .before .before .before .before .before .before .before .before .before .before .args .root)) (now (c .before .before .before .before .before .before .before .before .before .before .before .before .before .before .before .args .pool)) (c .before .before .before .before .before .before .before .before .before .before .before .before .before .before .before .args .cluster)) (c .before .before .before .before .before .before .before .before .before .before .before .before .before .before .before .args .node) (cleared (c .before .before .before .before .before .before .before .before .before .before .before .before .before .before .before .args .records) (now (c .before .before .before .before .before .before .before .before .before .before .before .before .before .before .before .args .marks))) _ (c .before .after .given .0 .0) (c .before .before .before .before .before .before .before .before .before .before .before .before .before .before .before .pre .1) b in
+    let a = c .before .before .before .before .before .before .before .before .before .before .before .before .before .before .before .args in
+    let b = rw (c .before .after .given .1) at (rw (c .before .before .before .before .before .before .before .before .before .clear .ensures) at
+    (c .before .before .before .before .before .check-node .ensures .0)) in
+    let p = passes-as (now (a .table)) (memory (now (a .root)) (now (a .pool)) (a .cluster)) (a .node) (cleared (a .records) (now (a .marks))) _
+    (c .before .after .given .0 .0)
+    (c .before .before .before .before .before .before .before .before .before .before .before .before .before .before .before .pre .1) b in
     (sym (ap (λ (x : Result). x .answer) p), sym (ap (λ (x : Result). x .marks) p))
 
 same-length-2 : tie.Need-same-length-2
@@ -45,12 +48,23 @@ same-length-2 c = search needs
 
 returns-2 : tie.Need-returns-2
 returns-2 c =
-    let b = rw (c .before .before .before .before .before .refusal .given .1) at (rw (c .before .before .before .before .before .before .before .before .before .before .before .before .before .clear .ensures) at (c .before .before .before .before .before .before .before .before .before .check-node .ensures .0)) in
-    let p = faults-as (now (c .before .before .before .before .before .before .before .before .before .before .before .before .before .before .before .before .before .before .before .args .table)) (memory (now (c .before .before .before .before .before .before .before .before .before .before .before .before .before .before .before .before .before .before .before .args .root)) (now (c .before .before .before .before .before .before .before .before .before .before .before .before .before .before .before .before .before .before .before .args .pool)) (c .before .before .before .before .before .before .before .before .before .before .before .before .before .before .before .before .before .before .before .args .cluster)) (c .before .before .before .before .before .before .before .before .before .before .before .before .before .before .before .before .before .before .before .args .node) (cleared (c .before .before .before .before .before .before .before .before .before .before .before .before .before .before .before .before .before .before .before .args .records) (now (c .before .before .before .before .before .before .before .before .before .before .before .before .before .before .before .before .before .before .before .args .marks))) (c .before .before .before .before .before .refusal .given .0 .0) (c .before .before .before .before .before .refusal .given .0 .1 .0) (c .before .before .before .before .before .before .before .before .before .before .before .before .before .before .before .before .before .before .before .pre .1) b in
-    let d = rw (c .before .before .before .before .before .before .before .before .before .before .before .before .before .clear .ensures, ← c .before .before .before .before .before .before .before .before .before .before .before .before .before .before .before .before .before .before .before .pre .2) at (c .before .before .before .before .before .before .before .before .before .check-node .ensures .1 .0) in (
-      sym (ap (λ (x : Result). x .answer) p),
-      c .before .before .clear2 .ensures ∙ clear-again (c .before .before .before .before .before .before .before .before .before .before .before .before .before .before .before .before .before .before .before .args .records) (now (c .before .before .before .before .before .before .before .before .before .before .before .before .before .before .before .before .before .before .before .args .marks)) _ (c .before .before .before .before .before .before .before .before .before .before .before .before .before .before .before .before .before .before .before .pre .3) d ∙ sym (ap (λ (x : Result). x .marks) p),
-    )
+    let a =
+    c .before .before .before .before .before .before .before .before .before .before .before .before .before .before .before .before .before .before .before
+    .args
+    in
+    let h =
+    c .before .before .before .before .before .before .before .before .before .before .before .before .before .before .before .before .before .before .before
+    .pre
+    in
+    let clear = c .before .before .before .before .before .before .before .before .before .before .before .before .before .clear .ensures in
+    let n = c .before .before .before .before .before .before .before .before .before .check-node .ensures in
+    let r = c .before .before .before .before .before .refusal .given in
+    let b = rw (r .1) at (rw clear at (n .0)) in
+    let p = faults-as (now (a .table)) (memory (now (a .root)) (now (a .pool)) (a .cluster)) (a .node) (cleared (a .records) (now (a .marks)))
+    (r .0 .0) (r .0 .1 .0) (h .1) b in
+    let d = rw (clear, ← h .2) at (n .1 .0) in
+    let again = clear-again (a .records) (now (a .marks)) _ (h .3) d in
+    (sym (ap (λ (x : Result). x .answer) p), c .before .before .clear2 .ensures ∙ again ∙ sym (ap (λ (x : Result). x .marks) p))
 
 pub check-walk-spec : {M : Type 1} → statement M
 check-walk-spec =

@@ -1,6 +1,5 @@
 -- `close_entry`: the node is done, 25, or the entry is listed.
 -- Each return puts the tests into the definition.
-use mathlib.Core.Path.{sym, _∙_}
 use borrow.Author.Needs.{needs}
 use Rattle.checker.proofs.close_entry.Statement.{statement}
 use Rattle.checker.proofs.close_entry.Tie as tie

@@ -1,13 +1,9 @@
 -- `judge_entry`: what the node's next entry is, where it ends, and what its key and its VCN say.
 -- The look is told by `next_entry`; one law for each end against the used end.
-use Prim.Native.Nat.{ℕ, _+_}
-use mathlib.Core.Path.{sym, ap, _∙_}
-use Rattle.ordering.specs.Order.{order}
-use Rattle.index_entry.specs.Entry.{subnodeOf, subnodeSays}
-use Rattle.checker.specs.Turn.{withSub}
+use mathlib.Core.Path.{sym, _∙_}
 use denote.Ref.{now}
-use Rattle.index.proofs.Reading.{look-over, look-refused, look-entry, read-within, own, seen}
-use Rattle.checker.proofs.Told.{meets-past, meets-short, meets-last, meets-wrong, meets-key, sounds}
+use Rattle.index.proofs.Reading.{look-over, look-refused, read-within}
+use Rattle.checker.proofs.Told.{reads-past, reads-short, reads-last, reads-wrong, reads-key}
 use borrow.Author.Needs.{needs}
 use Rattle.checker.proofs.judge_entry.Statement.{statement}
 use Rattle.checker.proofs.judge_entry.Tie as tie
@@ -29,7 +25,9 @@ entry-bytes-requires c κs = search needs
 
 add-next : tie.Need-add-next
 add-next c =
-    let w = read-within (now (c .before .before .before .before .before .before .before .args .bytes)) (c .before .before .before .before .before .before .before .args .view) (c .before .before .before .before .before .before .before .args .at) (c .before .before .before .place .given .0 .0) (sym (c .before .before .before .before .before .next-entry .ensures) ∙ c .before .before .before .place .given .1) in
+    let a = c .before .before .before .before .before .before .before .args in
+    let told = sym (c .before .before .before .before .before .next-entry .ensures) ∙ c .before .before .before .place .given .1 in
+    let w = read-within (now (a .bytes)) (a .view) (a .at) _ told in
     search needs
 
 is-last-entry-requires : tie.Need-is-last-entry-requires
@@ -40,31 +38,28 @@ judge-sub-requires c κs = search needs
 
 returns : tie.Need-returns
 returns c =
-    let told = sym (c .before .before .before .before .before .before .before .before .before .next-entry .ensures) ∙ c .before .before .before .before .before .before .before .place .given .1 in
-    let e = look-entry (now (c .before .before .before .before .before .before .before .before .before .before .before .args .bytes)) (c .before .before .before .before .before .before .before .before .before .before .before .args .view) (c .before .before .before .before .before .before .before .before .before .before .before .args .at) (c .before .before .before .before .before .before .before .place .given .0 .0) told in
-    let w = read-within (now (c .before .before .before .before .before .before .before .before .before .before .before .args .bytes)) (c .before .before .before .before .before .before .before .before .before .before .before .args .view) (c .before .before .before .before .before .before .before .before .before .before .before .args .at) (c .before .before .before .before .before .before .before .place .given .0 .0) told in
-    let ends = ap (λ (n : ℕ). order (c .before .before .before .before .before .before .before .before .before .before .before .args .at + n) (c .before .before .before .before .before .before .before .before .before .before .before .args .view .used)) (sym (w .1)) in
-    meets-past _ (seen (now (c .before .before .before .before .before .before .before .before .before .before .before .args .bytes)) (c .before .before .before .before .before .before .before .before .before .before .before .args .view) (c .before .before .before .before .before .before .before .before .before .before .before .args .at) (c .before .before .before .before .before .before .before .place .given .0 .0)) _ _ e ends (c .if1 .taken)
+    let a = c .before .before .before .before .before .before .before .before .before .before .before .args in
+    let told = sym (c .before .before .before .before .before .before .before .before .before .next-entry .ensures) ∙
+    c .before .before .before .before .before .before .before .place .given .1 in
+    reads-past (now (a .bytes)) (a .view) (a .at) _ told _ (c .before .before .before .before .before .entry-bytes .ensures) (c .if1 .taken)
 
 returns-2 : tie.Need-returns-2
 returns-2 c =
-    let told = sym (c .before .before .before .before .before .before .before .before .before .before .before .before .next-entry .ensures) ∙ c .before .before .before .before .before .before .before .before .before .before .place .given .1 in
-    let e = look-entry (now (c .before .before .before .before .before .before .before .before .before .before .before .before .before .before .args .bytes)) (c .before .before .before .before .before .before .before .before .before .before .before .before .before .before .args .view) (c .before .before .before .before .before .before .before .before .before .before .before .before .before .before .args .at) (c .before .before .before .before .before .before .before .before .before .before .place .given .0 .0) told in
-    let w = read-within (now (c .before .before .before .before .before .before .before .before .before .before .before .before .before .before .args .bytes)) (c .before .before .before .before .before .before .before .before .before .before .before .before .before .before .args .view) (c .before .before .before .before .before .before .before .before .before .before .before .before .before .before .args .at) (c .before .before .before .before .before .before .before .before .before .before .place .given .0 .0) told in
-    let ends = ap (λ (n : ℕ). order (c .before .before .before .before .before .before .before .before .before .before .before .before .before .before .args .at + n) (c .before .before .before .before .before .before .before .before .before .before .before .before .before .before .args .view .used)) (sym (w .1)) in
-    meets-short _ (seen (now (c .before .before .before .before .before .before .before .before .before .before .before .before .before .before .args .bytes)) (c .before .before .before .before .before .before .before .before .before .before .before .before .before .before .args .view) (c .before .before .before .before .before .before .before .before .before .before .before .before .before .before .args .at) (c .before .before .before .before .before .before .before .before .before .before .place .given .0 .0)) _ _ e ends (sym (rw (c .before .before .before .before .before .before .before .before .entry-bytes .ensures) at (c .before .before .before .before .before .before .is-last-entry .ensures)) ∙ c .before .before .if2 .taken) (c .if3 .taken)
+    let a = c .before .before .before .before .before .before .before .before .before .before .before .before .before .before .args in
+    let told = sym (c .before .before .before .before .before .before .before .before .before .before .before .before .next-entry .ensures) ∙
+    c .before .before .before .before .before .before .before .before .before .before .place .given .1 in
+    reads-short (now (a .bytes)) (a .view) (a .at) _ told _ (c .before .before .before .before .before .before .before .before .entry-bytes .ensures)
+    (sym (c .before .before .before .before .before .before .is-last-entry .ensures) ∙ c .before .before .if2 .taken) (c .if3 .taken)
 
 returns-3 : tie.Need-returns-3
 returns-3 c =
-    let told = sym (c .before .before .before .before .before .before .before .before .before .before .before .before .next-entry .ensures) ∙ c .before .before .before .before .before .before .before .before .before .before .place .given .1 in
-    let e = look-entry (now (c .before .before .before .before .before .before .before .before .before .before .before .before .before .before .args .bytes)) (c .before .before .before .before .before .before .before .before .before .before .before .before .before .before .args .view) (c .before .before .before .before .before .before .before .before .before .before .before .before .before .before .args .at) (c .before .before .before .before .before .before .before .before .before .before .place .given .0 .0) told in
-    let w = read-within (now (c .before .before .before .before .before .before .before .before .before .before .before .before .before .before .args .bytes)) (c .before .before .before .before .before .before .before .before .before .before .before .before .before .before .args .view) (c .before .before .before .before .before .before .before .before .before .before .before .before .before .before .args .at) (c .before .before .before .before .before .before .before .before .before .before .place .given .0 .0) told in
-    let ends = ap (λ (n : ℕ). order (c .before .before .before .before .before .before .before .before .before .before .before .before .before .before .args .at + n) (c .before .before .before .before .before .before .before .before .before .before .before .before .before .before .args .view .used)) (sym (w .1)) in
-    let s = rw (c .before .before .before .before .before .before .before .before .entry-bytes .ensures) at (c .before .before .before .before .before .judge-sub .ensures) ∙
-    ap (λ x. withSub x (subnodeSays (subnodeOf (own (now (c .before .before .before .before .before .before .before .before .before .before .before .before .before .before .args .bytes)) (c .before .before .before .before .before .before .before .before .before .before .before .before .before .before .args .view) (c .before .before .before .before .before .before .before .before .before .before .before .before .before .before .args .at)))))
-    (sounds (seen (now (c .before .before .before .before .before .before .before .before .before .before .before .before .before .before .args .bytes)) (c .before .before .before .before .before .before .before .before .before .before .before .before .before .before .args .view) (c .before .before .before .before .before .before .before .before .before .before .before .before .before .before .args .at) (c .before .before .before .before .before .before .before .before .before .before .place .given .0 .0)) _ _ (ap (λ (n : ℕ). n + c .before .before .before .before .before .before .before .before .before .before .place .given .0 .0 .size) (sym (w .0)))
-    (rw (c .before .before .before .before .before .before .before .before .entry-bytes .ensures) at (c .before .before .before .before .before .before .is-last-entry .ensures))) in
-    s ∙ meets-last _ (seen (now (c .before .before .before .before .before .before .before .before .before .before .before .before .before .before .args .bytes)) (c .before .before .before .before .before .before .before .before .before .before .before .before .before .before .args .view) (c .before .before .before .before .before .before .before .before .before .before .before .before .before .before .args .at) (c .before .before .before .before .before .before .before .before .before .before .place .given .0 .0)) _ _ e ends (sym (rw (c .before .before .before .before .before .before .before .before .entry-bytes .ensures) at (c .before .before .before .before .before .before .is-last-entry .ensures)) ∙ c .before .before .if2 .taken) (c .before .before .before .if1 .left) (c .if3 .left)
+    let a = c .before .before .before .before .before .before .before .before .before .before .before .before .before .before .args in
+    let told = sym (c .before .before .before .before .before .before .before .before .before .before .before .before .next-entry .ensures) ∙
+    c .before .before .before .before .before .before .before .before .before .before .place .given .1 in
+    c .before .before .before .before .before .judge-sub .ensures ∙ reads-last (now (a .bytes)) (a .view) (a .at) _ told _
+    (c .before .before .before .before .before .before .before .before .entry-bytes .ensures) _
+    (c .before .before .before .before .before .before .is-last-entry .ensures) (c .before .before .if2 .taken) (c .before .before .before .if1 .left)
+    (c .if3 .left)
 
 judge-key-requires : tie.Need-judge-key-requires
 judge-key-requires c κs = search needs
@@ -76,30 +71,35 @@ enum-told-2 : tie.Need-enum-told-2
 enum-told-2 c = search needs
 
 returns-4 : tie.Need-returns-4
-returns-4 c = rw (look-over (now (c .before .before .before .before .args .bytes)) (c .before .before .before .before .args .view) (c .before .before .before .before .args .at) (sym (c .before .before .next-entry .ensures) ∙ c .enum-told .given .1))
+returns-4 c =
+    let a = c .before .before .before .before .args in
+    rw (look-over (now (a .bytes)) (a .view) (a .at) (sym (c .before .before .next-entry .ensures) ∙ c .enum-told .given .1))
 
 returns-5 : tie.Need-returns-5
-returns-5 c = rw (look-refused (now (c .before .before .before .before .before .args .bytes)) (c .before .before .before .before .before .args .view) (c .before .before .before .before .before .args .at) (c .before .r .given .0 .0) (sym (c .before .before .before .next-entry .ensures) ∙ c .before .r .given .1))
+returns-5 c =
+    let a = c .before .before .before .before .before .args in
+    rw (look-refused (now (a .bytes)) (a .view) (a .at) (c .before .r .given .0 .0) (sym (c .before .before .before .next-entry .ensures) ∙
+    c .before .r .given .1))
 
 returns-6 : tie.Need-returns-6
 returns-6 c =
-    let told = sym (c .before .before .before .before .before .before .before .before .before .before .before .before .before .before .next-entry .ensures) ∙ c .before .before .before .before .before .before .before .before .before .before .before .before .place .given .1 in
-    let e = look-entry (now (c .before .before .before .before .before .before .before .before .before .before .before .before .before .before .before .before .args .bytes)) (c .before .before .before .before .before .before .before .before .before .before .before .before .before .before .before .before .args .view) (c .before .before .before .before .before .before .before .before .before .before .before .before .before .before .before .before .args .at) (c .before .before .before .before .before .before .before .before .before .before .before .before .place .given .0 .0) told in
-    let w = read-within (now (c .before .before .before .before .before .before .before .before .before .before .before .before .before .before .before .before .args .bytes)) (c .before .before .before .before .before .before .before .before .before .before .before .before .before .before .before .before .args .view) (c .before .before .before .before .before .before .before .before .before .before .before .before .before .before .before .before .args .at) (c .before .before .before .before .before .before .before .before .before .before .before .before .place .given .0 .0) told in
-    let ends = ap (λ (n : ℕ). order (c .before .before .before .before .before .before .before .before .before .before .before .before .before .before .before .before .args .at + n) (c .before .before .before .before .before .before .before .before .before .before .before .before .before .before .before .before .args .view .used)) (sym (w .1)) in
-    meets-wrong _ (seen (now (c .before .before .before .before .before .before .before .before .before .before .before .before .before .before .before .before .args .bytes)) (c .before .before .before .before .before .before .before .before .before .before .before .before .before .before .before .before .args .view) (c .before .before .before .before .before .before .before .before .before .before .before .before .before .before .before .before .args .at) (c .before .before .before .before .before .before .before .before .before .before .before .before .place .given .0 .0)) _ _ e ends _ (sym (rw (c .before .before .before .before .before .before .before .before .before .before .entry-bytes .ensures) at (c .before .before .before .before .before .before .before .before .is-last-entry .ensures)) ∙ c .before .before .before .before .if2 .left) (c .before .before .before .before .before .if1 .left) (sym (rw (c .before .before .before .before .before .before .before .before .before .before .entry-bytes .ensures) at (c .before .before .before .judge-key .ensures)) ∙ c .before .r2 .given .1)
+    let a = c .before .before .before .before .before .before .before .before .before .before .before .before .before .before .before .before .args in
+    let told = sym (c .before .before .before .before .before .before .before .before .before .before .before .before .before .before .next-entry .ensures) ∙
+    c .before .before .before .before .before .before .before .before .before .before .before .before .place .given .1 in
+    reads-wrong (now (a .bytes)) (a .view) (a .at) _ told _
+    (c .before .before .before .before .before .before .before .before .before .before .entry-bytes .ensures) _
+    (sym (c .before .before .before .before .before .before .before .before .is-last-entry .ensures) ∙ c .before .before .before .before .if2 .left)
+    (c .before .before .before .before .before .if1 .left) (sym (c .before .r2 .given .1) ∙ c .before .before .before .judge-key .ensures)
 
 returns-7 : tie.Need-returns-7
 returns-7 c =
-    let told = sym (c .before .before .before .before .before .before .before .before .before .before .before .before .before .next-entry .ensures) ∙ c .before .before .before .before .before .before .before .before .before .before .before .place .given .1 in
-    let e = look-entry (now (c .before .before .before .before .before .before .before .before .before .before .before .before .before .before .before .args .bytes)) (c .before .before .before .before .before .before .before .before .before .before .before .before .before .before .before .args .view) (c .before .before .before .before .before .before .before .before .before .before .before .before .before .before .before .args .at) (c .before .before .before .before .before .before .before .before .before .before .before .place .given .0 .0) told in
-    let w = read-within (now (c .before .before .before .before .before .before .before .before .before .before .before .before .before .before .before .args .bytes)) (c .before .before .before .before .before .before .before .before .before .before .before .before .before .before .before .args .view) (c .before .before .before .before .before .before .before .before .before .before .before .before .before .before .before .args .at) (c .before .before .before .before .before .before .before .before .before .before .before .place .given .0 .0) told in
-    let ends = ap (λ (n : ℕ). order (c .before .before .before .before .before .before .before .before .before .before .before .before .before .before .before .args .at + n) (c .before .before .before .before .before .before .before .before .before .before .before .before .before .before .before .args .view .used)) (sym (w .1)) in
-    let s = rw (c .before .before .before .before .before .before .before .before .before .entry-bytes .ensures) at (c .before .before .before .before .before .before .judge-sub .ensures) ∙
-    ap (λ x. withSub x (subnodeSays (subnodeOf (own (now (c .before .before .before .before .before .before .before .before .before .before .before .before .before .before .before .args .bytes)) (c .before .before .before .before .before .before .before .before .before .before .before .before .before .before .before .args .view) (c .before .before .before .before .before .before .before .before .before .before .before .before .before .before .before .args .at)))))
-    (sounds (seen (now (c .before .before .before .before .before .before .before .before .before .before .before .before .before .before .before .args .bytes)) (c .before .before .before .before .before .before .before .before .before .before .before .before .before .before .before .args .view) (c .before .before .before .before .before .before .before .before .before .before .before .before .before .before .before .args .at) (c .before .before .before .before .before .before .before .before .before .before .before .place .given .0 .0)) _ _ (ap (λ (n : ℕ). n + c .before .before .before .before .before .before .before .before .before .before .before .place .given .0 .0 .size) (sym (w .0)))
-    (rw (c .before .before .before .before .before .before .before .before .before .entry-bytes .ensures) at (c .before .before .before .before .before .before .before .is-last-entry .ensures))) in
-    s ∙ meets-key _ (seen (now (c .before .before .before .before .before .before .before .before .before .before .before .before .before .before .before .args .bytes)) (c .before .before .before .before .before .before .before .before .before .before .before .before .before .before .before .args .view) (c .before .before .before .before .before .before .before .before .before .before .before .before .before .before .before .args .at) (c .before .before .before .before .before .before .before .before .before .before .before .place .given .0 .0)) _ _ e ends (sym (rw (c .before .before .before .before .before .before .before .before .before .entry-bytes .ensures) at (c .before .before .before .before .before .before .before .is-last-entry .ensures)) ∙ c .before .before .before .if2 .left) (c .before .before .before .before .if1 .left) (sym (rw (c .before .before .before .before .before .before .before .before .before .entry-bytes .ensures) at (c .before .before .judge-key .ensures)) ∙ c .enum-told2 .given .1)
+    let a = c .before .before .before .before .before .before .before .before .before .before .before .before .before .before .before .args in
+    let told = sym (c .before .before .before .before .before .before .before .before .before .before .before .before .before .next-entry .ensures) ∙
+    c .before .before .before .before .before .before .before .before .before .before .before .place .given .1 in
+    c .before .before .before .before .before .before .judge-sub .ensures ∙ reads-key (now (a .bytes)) (a .view) (a .at) _ told _
+    (c .before .before .before .before .before .before .before .before .before .entry-bytes .ensures) _
+    (c .before .before .before .before .before .before .before .is-last-entry .ensures) (c .before .before .before .if2 .left)
+    (c .before .before .before .before .if1 .left) (sym (c .enum-told2 .given .1) ∙ c .before .before .judge-key .ensures)
 
 pub judge-entry-spec : {M : Type 1} → statement M
 judge-entry-spec =

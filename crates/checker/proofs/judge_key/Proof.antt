@@ -37,13 +37,28 @@ returns : tie.Need-returns
 returns c = key-missing (keyOf (now (c .before .before .before .before .args .entry))) (sym (c .before .before .key .ensures) ∙ c .enum-told .given .1)
 
 returns-2 : tie.Need-returns-2
-returns-2 c = key-wrong (keyOf (now (c .before .before .before .before .before .args .entry))) _ (sym (c .before .before .before .key .ensures) ∙ c .before .r .given .1)
+returns-2 c =
+    key-wrong (keyOf (now (c .before .before .before .before .before .args .entry))) _ (sym (c .before .before .before .key .ensures) ∙ c .before .r .given .1)
 
 returns-3 : tie.Need-returns-3
-returns-3 c = rw (← key-present (keyOf (now (c .before .before .before .before .before .before .before .before .args .entry))) (sym (c .before .before .before .before .before .before .key .ensures) ∙ c .before .before .before .before .enum-told2 .given .1), ← c .before .before .before .key-bytes .ensures, ← c .before .before .read-file-name .ensures, c .enum-told3 .given .1)
+returns-3 c =
+    rw (
+      ← key-present (keyOf (now (c .before .before .before .before .before .before .before .before .args .entry))) (sym
+          (c .before .before .before .before .before .before .key .ensures) ∙ c .before .before .before .before .enum-told2 .given .1),
+      ← c .before .before .before .key-bytes .ensures,
+      ← c .before .before .read-file-name .ensures,
+      c .enum-told3 .given .1,
+    )
 
 returns-4 : tie.Need-returns-4
-returns-4 c = rw (← key-present (keyOf (now (c .before .before .before .before .before .before .before .before .args .entry))) (sym (c .before .before .before .before .before .before .key .ensures) ∙ c .before .before .before .before .enum-told2 .given .1), ← c .before .before .before .key-bytes .ensures, ← c .before .before .read-file-name .ensures, c .enum-told4 .given .1)
+returns-4 c =
+    rw (
+      ← key-present (keyOf (now (c .before .before .before .before .before .before .before .before .args .entry))) (sym
+          (c .before .before .before .before .before .before .key .ensures) ∙ c .before .before .before .before .enum-told2 .given .1),
+      ← c .before .before .before .key-bytes .ensures,
+      ← c .before .before .read-file-name .ensures,
+      c .enum-told4 .given .1,
+    )
 
 pub judge-key-spec : {M : Type 1} → statement M
 judge-key-spec =

@@ -25,7 +25,8 @@ returns-2 : tie.Need-returns-2
 returns-2 c = rw (← c .before .before .before .subnode-vcn .ensures, c .before .r .given .1)
 
 returns-3 : tie.Need-returns-3
-returns-3 c = rw (← c .before .before .before .subnode-vcn .ensures, c .before .vcn .given .1, toZ-ofZ {w = w64} {z = c .before .vcn .given .0 .0} (search needs))
+returns-3 c =
+    rw (← c .before .before .before .subnode-vcn .ensures, c .before .vcn .given .1, toZ-ofZ {w = w64} {z = c .before .vcn .given .0 .0} (search needs))
 
 pub judge-sub-spec : {M : Type 1} → statement M
 judge-sub-spec =

@@ -2,7 +2,6 @@
 -- Each arm puts what was told into the definition.
 use mathlib.Core.Path.{sym, _∙_}
 use denote.Ref.{now}
-use Rattle.index_node.specs.Memory.{memory}
 use Rattle.index_finder.proofs.Told.{order-told, order-given}
 use Rattle.checker.specs.Turn.{nameAt}
 use borrow.Author.Needs.{needs}
@@ -44,23 +43,51 @@ returns c = rw (c .enum-told .given .1)
 
 returns-2 : tie.Need-returns-2
 returns-2 c =
-    let c2 = rw (c .before .before .before .before .name-at .ensures, c .before .before .before .name-at2 .ensures) at (c .before .before .upcase-cmp-keys .ensures) in
-    absurd (order-given (now (c .before .before .before .before .before .before .before .before .before .before .before .args .table)) (nameAt (memory (now (c .before .before .before .before .before .before .before .before .before .before .before .args .root)) (now (c .before .before .before .before .before .before .before .before .before .before .before .args .pool)) (c .before .before .before .before .before .before .before .before .before .before .before .args .cluster)) (c .before .before .before .before .before .before .before .before .before .before .before .args .place)) (nameAt (memory (now (c .before .before .before .before .before .before .before .before .before .before .before .args .root)) (now (c .before .before .before .before .before .before .before .before .before .before .before .args .pool)) (c .before .before .before .before .before .before .before .before .before .before .before .args .cluster)) (c .before .before .before .before .before .before .before2 .given .0 .0)) (c .before .before .before .before .before .before .before .before .before .before .before .pre) _ (sym c2 ∙ c .enum-told2 .given .1))
+    let a = c .before .before .before .before .before .before .before .before .before .before .before .args in
+    let told = rw (c .before .before .before .before .name-at .ensures, c .before .before .before .name-at2 .ensures) at
+    (c .before .before .upcase-cmp-keys .ensures) in
+    absurd (order-given (now (a .table)) (nameAt (now (a .root)) (now (a .pool)) (a .spot)) (nameAt (now (a .root)) (now (a .pool))
+    (c .before .before .before .before .before .before .before2 .given .0 .0))
+    (c .before .before .before .before .before .before .before .before .before .before .before .pre) _ (sym told ∙ c .enum-told2 .given .1))
 
 returns-3 : tie.Need-returns-3
 returns-3 c =
-    let c2 = rw (c .before .before .before .before .before .before .before .name-at .ensures, c .before .before .before .before .before .before .name-at2 .ensures) at (c .before .before .before .before .before .upcase-cmp-keys .ensures) in
-    rw (c .before .before .before .before .before .before .before .before .before .before2 .given .1, ← (order-told (now (c .before .before .before .before .before .before .before .before .before .before .before .before .before .before .args .table)) (nameAt (memory (now (c .before .before .before .before .before .before .before .before .before .before .before .before .before .before .args .root)) (now (c .before .before .before .before .before .before .before .before .before .before .before .before .before .before .args .pool)) (c .before .before .before .before .before .before .before .before .before .before .before .before .before .before .args .cluster)) (c .before .before .before .before .before .before .before .before .before .before .before .before .before .before .args .place)) (nameAt (memory (now (c .before .before .before .before .before .before .before .before .before .before .before .before .before .before .args .root)) (now (c .before .before .before .before .before .before .before .before .before .before .before .before .before .before .args .pool)) (c .before .before .before .before .before .before .before .before .before .before .before .before .before .before .args .cluster)) (c .before .before .before .before .before .before .before .before .before .before2 .given .0 .0)) (c .before .before .before .before .before .before .before .before .before .before .before .before .before .before .pre) (c .before .before .before .order .given .0 .0) (sym c2 ∙ c .before .before .before .order .given .1)), c .enum-told3 .given .1)
+    let a = c .before .before .before .before .before .before .before .before .before .before .before .before .before .before .args in
+    let told = rw (
+      c .before .before .before .before .before .before .before .name-at .ensures,
+      c .before .before .before .before .before .before .name-at2 .ensures,
+    ) at (c .before .before .before .before .before .upcase-cmp-keys .ensures) in
+    let is = order-told (now (a .table)) (nameAt (now (a .root)) (now (a .pool)) (a .spot)) (nameAt (now (a .root)) (now (a .pool))
+    (c .before .before .before .before .before .before .before .before .before .before2 .given .0 .0))
+    (c .before .before .before .before .before .before .before .before .before .before .before .before .before .before .pre) _ (sym told ∙
+    c .before .before .before .order .given .1) in
+    rw (c .before .before .before .before .before .before .before .before .before .before2 .given .1, ← is, c .enum-told3 .given .1)
 
 returns-4 : tie.Need-returns-4
 returns-4 c =
-    let c2 = rw (c .before .before .before .before .before .before .before .name-at .ensures, c .before .before .before .before .before .before .name-at2 .ensures) at (c .before .before .before .before .before .upcase-cmp-keys .ensures) in
-    rw (c .before .before .before .before .before .before .before .before .before .before2 .given .1, ← (order-told (now (c .before .before .before .before .before .before .before .before .before .before .before .before .before .before .args .table)) (nameAt (memory (now (c .before .before .before .before .before .before .before .before .before .before .before .before .before .before .args .root)) (now (c .before .before .before .before .before .before .before .before .before .before .before .before .before .before .args .pool)) (c .before .before .before .before .before .before .before .before .before .before .before .before .before .before .args .cluster)) (c .before .before .before .before .before .before .before .before .before .before .before .before .before .before .args .place)) (nameAt (memory (now (c .before .before .before .before .before .before .before .before .before .before .before .before .before .before .args .root)) (now (c .before .before .before .before .before .before .before .before .before .before .before .before .before .before .args .pool)) (c .before .before .before .before .before .before .before .before .before .before .before .before .before .before .args .cluster)) (c .before .before .before .before .before .before .before .before .before .before2 .given .0 .0)) (c .before .before .before .before .before .before .before .before .before .before .before .before .before .before .pre) (c .before .before .before .order .given .0 .0) (sym c2 ∙ c .before .before .before .order .given .1)), c .enum-told4 .given .1)
+    let a = c .before .before .before .before .before .before .before .before .before .before .before .before .before .before .args in
+    let told = rw (
+      c .before .before .before .before .before .before .before .name-at .ensures,
+      c .before .before .before .before .before .before .name-at2 .ensures,
+    ) at (c .before .before .before .before .before .upcase-cmp-keys .ensures) in
+    let is = order-told (now (a .table)) (nameAt (now (a .root)) (now (a .pool)) (a .spot)) (nameAt (now (a .root)) (now (a .pool))
+    (c .before .before .before .before .before .before .before .before .before .before2 .given .0 .0))
+    (c .before .before .before .before .before .before .before .before .before .before .before .before .before .before .pre) _ (sym told ∙
+    c .before .before .before .order .given .1) in
+    rw (c .before .before .before .before .before .before .before .before .before .before2 .given .1, ← is, c .enum-told4 .given .1)
 
 returns-5 : tie.Need-returns-5
 returns-5 c =
-    let c2 = rw (c .before .before .before .before .before .before .before .name-at .ensures, c .before .before .before .before .before .before .name-at2 .ensures) at (c .before .before .before .before .before .upcase-cmp-keys .ensures) in
-    rw (c .before .before .before .before .before .before .before .before .before .before2 .given .1, ← (order-told (now (c .before .before .before .before .before .before .before .before .before .before .before .before .before .before .args .table)) (nameAt (memory (now (c .before .before .before .before .before .before .before .before .before .before .before .before .before .before .args .root)) (now (c .before .before .before .before .before .before .before .before .before .before .before .before .before .before .args .pool)) (c .before .before .before .before .before .before .before .before .before .before .before .before .before .before .args .cluster)) (c .before .before .before .before .before .before .before .before .before .before .before .before .before .before .args .place)) (nameAt (memory (now (c .before .before .before .before .before .before .before .before .before .before .before .before .before .before .args .root)) (now (c .before .before .before .before .before .before .before .before .before .before .before .before .before .before .args .pool)) (c .before .before .before .before .before .before .before .before .before .before .before .before .before .before .args .cluster)) (c .before .before .before .before .before .before .before .before .before .before2 .given .0 .0)) (c .before .before .before .before .before .before .before .before .before .before .before .before .before .before .pre) (c .before .before .before .order .given .0 .0) (sym c2 ∙ c .before .before .before .order .given .1)), c .enum-told5 .given .1)
+    let a = c .before .before .before .before .before .before .before .before .before .before .before .before .before .before .args in
+    let told = rw (
+      c .before .before .before .before .before .before .before .name-at .ensures,
+      c .before .before .before .before .before .before .name-at2 .ensures,
+    ) at (c .before .before .before .before .before .upcase-cmp-keys .ensures) in
+    let is = order-told (now (a .table)) (nameAt (now (a .root)) (now (a .pool)) (a .spot)) (nameAt (now (a .root)) (now (a .pool))
+    (c .before .before .before .before .before .before .before .before .before .before2 .given .0 .0))
+    (c .before .before .before .before .before .before .before .before .before .before .before .before .before .before .pre) _ (sym told ∙
+    c .before .before .before .order .given .1) in
+    rw (c .before .before .before .before .before .before .before .before .before .before2 .given .1, ← is, c .enum-told5 .given .1)
 
 pub name-falls-spec : {M : Type 1} → statement M
 name-falls-spec =
