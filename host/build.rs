@@ -8,7 +8,7 @@ fn main() {
     println!("cargo:rerun-if-env-changed=NTFS_INDEX_ARCHIVE");
     println!("cargo:rerun-if-changed={}", archive.display());
     if !archive.is_file() {
-        eprintln!("no archive at {}: run tools/native-staticlib c_api first", archive.display());
+        eprintln!("no archive at {}: run tools/native-staticlib c_api, or set NTFS_INDEX_ARCHIVE to an absolute path", archive.display());
         process::exit(1);
     }
     // A name of its own, so that the search path cannot hand over another libc_api.a.

@@ -1,7 +1,8 @@
 /* NTFS directory indexes, read with proof: the library for C and C++.
 
-   A directory is lent as three things: its root (the value of $INDEX_ROOT), its pool (all index records one after another, with
-   update sequences undone; of length 0 where the directory has none), and the cluster size of the volume in bytes.
+   A directory is lent as three things: its root (the value of $INDEX_ROOT), its pool (the whole value of $INDEX_ALLOCATION, unused records
+   too, with update sequences undone; of length 0 where the directory has none), and the cluster size of the volume in bytes. Where
+   clusters are larger than index records, VCNs count blocks of 512 bytes: lend 512 as the cluster size there.
 
    What is lent. A slice is two arguments, a pointer to its first element and its length in elements. A pointer may not be NULL, not
    even where the length is 0: lend any address then. It must be aligned as its type asks. Root, pool, table, name and entry are only read.
@@ -33,7 +34,8 @@ enum {
 /* Which number of an answer is what; that of a check has the first three, that of ntfs_entry_name the first two. All that is not said to
    hold something is 0. */
 enum {
-    NTFS_WHAT = 0,    /* NTFS_NONE, NTFS_ENTRY or NTFS_REFUSED; of a check NTFS_PASSED or NTFS_REFUSED; of a name NTFS_NAMED for NTFS_ENTRY */
+    NTFS_WHAT = 0,    /* NTFS_NONE, NTFS_ENTRY or NTFS_REFUSED; of a check NTFS_PASSED or NTFS_REFUSED; of ntfs_entry_name NTFS_NONE,
+                         NTFS_NAMED or NTFS_REFUSED */
     NTFS_REFUSAL = 1, /* of a refusal: its number */
     NTFS_OPENED = 2,  /* how many records have been opened so far */
     NTFS_HOLDER = 3,  /* of an entry: NTFS_ROOT or NTFS_POOL, the slice that holds it */
@@ -63,33 +65,34 @@ enum {
     NTFS_POOL = 1
 };
 
-/* The refusals. The library gives none but these; 26, malformed capture, is the capture program's alone. */
+/* The refusals. Only the checker gives 21 to 25; 26, malformed capture, is the capture program's. A cursor that ntfs_new_cursor and its
+   steps did not make can hold any number from 1 to 26, which a step then repeats. */
 enum {
-    NTFS_ROOT_TOO_SHORT = 1,         /* root shorter than 32 */
-    NTFS_ROOT_START_OUTSIDE = 2,     /* root entries start at or past the root's length */
-    NTFS_ROOT_END_OUTSIDE = 3,       /* root used end past its length */
-    NTFS_ROOT_START_PAST_END = 4,    /* root entries start past the used end */
-    NTFS_LARGE_WITHOUT_POOL = 5,     /* large flag, pool empty */
-    NTFS_SIZE_NOT_ALLOWED = 6,       /* record or cluster size not allowed */
-    NTFS_POOL_NOT_WHOLE_RECORDS = 7, /* pool not whole records */
-    NTFS_ENTRY_SIZE = 8,             /* fewer than 16 bytes remain for an entry, its length is under 16, or exceeds what remains */
-    NTFS_ENTRY_DATA_RANGE = 9,       /* key or VCN ends outside the entry */
-    NTFS_SUBNODE_WITHOUT_POOL = 10,  /* subnode wanted, pool empty */
-    NTFS_TOO_MANY_LEVELS = 11,       /* subnode wanted at level 8 */
-    NTFS_ALLOWANCE_SPENT = 12,       /* allowance spent: as many records opened as allowed, or more */
-    NTFS_VCN_NOWHERE = 13,           /* VCN lies nowhere */
-    NTFS_SIGNATURE = 14,             /* signature not INDX */
-    NTFS_ALLOCATED_SIZE = 15,        /* 24 + allocated size over record size */
-    NTFS_INDEX_SIZE = 16,            /* index size over allocated size */
-    NTFS_OWN_VCN = 17,               /* own VCN not the wanted one */
-    NTFS_KEY_UNREADABLE = 18,        /* key unreadable as a file name */
-    NTFS_TABLE_LENGTH = 19,          /* table not 65,536 units */
-    NTFS_NAME_TOO_LONG = 20,         /* name over 255 units */
-    NTFS_MARKS_TOO_SHORT = 21,       /* marks shorter than the number of records; only the checker gives 21 to 25 */
-    NTFS_REACHED_TWICE = 22,         /* record reached twice */
-    NTFS_NODE_END = 23,              /* node's end wrong */
-    NTFS_KEY_MISSING = 24,           /* entry without LAST_ENTRY has no key */
-    NTFS_NAME_FALLS = 25             /* name less than the one listed before it */
+    NTFS_REFUSED_ROOT_TOO_SHORT = 1,         /* root shorter than 32 */
+    NTFS_REFUSED_ROOT_START_OUTSIDE = 2,     /* root entries start at or past the root's length */
+    NTFS_REFUSED_ROOT_END_OUTSIDE = 3,       /* root used end past its length */
+    NTFS_REFUSED_ROOT_START_PAST_END = 4,    /* root entries start past the used end */
+    NTFS_REFUSED_LARGE_WITHOUT_POOL = 5,     /* large flag, pool empty */
+    NTFS_REFUSED_SIZE_NOT_ALLOWED = 6,       /* record or cluster size not allowed */
+    NTFS_REFUSED_POOL_NOT_WHOLE_RECORDS = 7, /* pool not whole records */
+    NTFS_REFUSED_ENTRY_SIZE = 8,             /* fewer than 16 bytes remain for an entry, its length is under 16, or exceeds what remains */
+    NTFS_REFUSED_ENTRY_DATA_RANGE = 9,       /* key or VCN ends outside the entry */
+    NTFS_REFUSED_SUBNODE_WITHOUT_POOL = 10,  /* subnode wanted, pool empty */
+    NTFS_REFUSED_TOO_MANY_LEVELS = 11,       /* subnode wanted at level 8 */
+    NTFS_REFUSED_ALLOWANCE_SPENT = 12,       /* allowance spent: as many records opened as allowed, or more */
+    NTFS_REFUSED_VCN_NOWHERE = 13,           /* VCN lies nowhere */
+    NTFS_REFUSED_SIGNATURE = 14,             /* signature not INDX */
+    NTFS_REFUSED_ALLOCATED_SIZE = 15,        /* 24 + allocated size over record size */
+    NTFS_REFUSED_INDEX_SIZE = 16,            /* index size over allocated size */
+    NTFS_REFUSED_OWN_VCN = 17,               /* own VCN not the wanted one */
+    NTFS_REFUSED_KEY_UNREADABLE = 18,        /* key unreadable as a file name */
+    NTFS_REFUSED_TABLE_LENGTH = 19,          /* table not 65,536 units */
+    NTFS_REFUSED_NAME_TOO_LONG = 20,         /* name over 255 units */
+    NTFS_REFUSED_MARKS_TOO_SHORT = 21,       /* marks shorter than the number of records */
+    NTFS_REFUSED_REACHED_TWICE = 22,         /* record reached twice */
+    NTFS_REFUSED_NODE_END = 23,              /* node's end wrong */
+    NTFS_REFUSED_KEY_MISSING = 24,           /* entry without LAST_ENTRY has no key */
+    NTFS_REFUSED_NAME_FALLS = 25             /* name less than the one listed before it */
 };
 
 /* A listing that has not begun: writes all 43 numbers of the cursor.
@@ -129,9 +132,9 @@ void ntfs_find(
    marks.
 
    table: as for ntfs_find. marks: one byte a record, at least as many as the pool has records, so that a host can see which records no
-   path reaches. After a pass a mark is 1 where its record was reached and 0 where not. On the refusals 19, 1 to 7 and 21 (marks too
-   short) no mark changes; on any other the mark of every record is 0. Bytes past the number of records never change. What the marks were
-   before does not matter. */
+   path reaches; pool_length / 512 are always enough. After a pass a mark is 1 where its record was reached and 0 where not. On the
+   refusals 19, 1 to 7 and 21 (marks too short) no mark changes; on any other the mark of every record is 0. Bytes past the number of
+   records never change. What the marks were before does not matter. */
 void ntfs_check(
     const uint8_t *root, size_t root_length,
     const uint8_t *pool, size_t pool_length,

@@ -1,4 +1,5 @@
-/* Lists a small directory from C, looks names up in it, checks it, reads its entries, and sees to every number: rt staticlib c_api, then
+/* Lists a small directory from C, looks names up in it, checks it, reads its entries, and sees to every number:
+   tools/native-staticlib c_api, then
    cc -std=c99 -Wall -Wextra -pedantic -Iinclude tests/c_api.c target/staticlib/libc_api.a -o target/c_api && target/c_api */
 #include "ntfs_index.h"
 #include <stdio.h>
@@ -98,9 +99,9 @@ static void expect_check(const char *what, size_t root_length, size_t units, siz
 /* One record of two is reached. */
 static void check(void)
 {
-    static const uint64_t passed[] = {NTFS_PASSED, 0, 1}, no_table[] = {NTFS_REFUSED, NTFS_TABLE_LENGTH, 0};
-    static const uint64_t too_short[] = {NTFS_REFUSED, NTFS_MARKS_TOO_SHORT, 0}, short_root[] = {NTFS_REFUSED, NTFS_ROOT_TOO_SHORT, 0};
-    static const uint64_t falls[] = {NTFS_REFUSED, NTFS_NAME_FALLS, 1};
+    static const uint64_t passed[] = {NTFS_PASSED, 0, 1}, no_table[] = {NTFS_REFUSED, NTFS_REFUSED_TABLE_LENGTH, 0};
+    static const uint64_t too_short[] = {NTFS_REFUSED, NTFS_REFUSED_MARKS_TOO_SHORT, 0}, short_root[] = {NTFS_REFUSED, NTFS_REFUSED_ROOT_TOO_SHORT, 0};
+    static const uint64_t falls[] = {NTFS_REFUSED, NTFS_REFUSED_NAME_FALLS, 1};
     expect_check("check", ROOT_SIZE, 65536, 4, passed, "\0\1\xFF\xFF");
     expect_check("check with marks enough", ROOT_SIZE, 65536, 2, passed, "\0\1\xFF\xFF");
     expect_check("check with a mark too few", ROOT_SIZE, 65536, 1, too_short, "\xFF\xFF\xFF\xFF");
@@ -119,27 +120,47 @@ static void expect_name(const char *what, const uint8_t *entry, size_t length, c
     expect(what, answer, wanted, NTFS_NAME_WORDS);
 }
 
-/* An entry of 88 bytes, in more: record 41, sequence 3, the name A. */
-static void name(void)
-{
-    static const uint64_t named[] = {NTFS_NAMED, 0, 41, 3, 1, 82, 1}, empty[] = {NTFS_NAMED, 0, 41, 3, 3, 82, 0};
-    static const uint64_t none[] = {NTFS_NONE, 0, 41, 3, 0, 0, 0}, no_entry[] = {NTFS_REFUSED, NTFS_ENTRY_SIZE, 0, 0, 0, 0, 0};
-    static const uint64_t outside[] = {NTFS_REFUSED, NTFS_ENTRY_DATA_RANGE, 41, 3, 0, 0, 0};
-    static const uint64_t unreadable[] = {NTFS_REFUSED, NTFS_KEY_UNREADABLE, 41, 3, 0, 0, 0};
-    static const uint64_t large[] = {NTFS_NAMED, 0, 0xFFFFFFFFFFFF, 0xFFFF, 1, 82, 1};
-    uint8_t entry[96] = {0};
+static const uint64_t named[] = {NTFS_NAMED, 0, 41, 3, 1, 82, 1}, unnamed[] = {NTFS_NONE, 0, 41, 3, 0, 0, 0};
+static const uint64_t no_entry[] = {NTFS_REFUSED, NTFS_REFUSED_ENTRY_SIZE, 0, 0, 0, 0, 0};
+static const uint64_t outside[] = {NTFS_REFUSED, NTFS_REFUSED_ENTRY_DATA_RANGE, 41, 3, 0, 0, 0};
+static const uint64_t unreadable[] = {NTFS_REFUSED, NTFS_REFUSED_KEY_UNREADABLE, 41, 3, 0, 0, 0};
 
+/* An entry of 88 bytes, in more: record 41, sequence 3, the name A. */
+static void put_named(uint8_t entry[96])
+{
+    memset(entry, 0, 96);
     put_entry(entry, 88, 0, 'A', 0);
     put(entry, 6, 41);
     put(entry + 6, 2, 3);
+}
+
+static void name_of_entries(void)
+{
+    static const uint64_t large[] = {NTFS_NAMED, 0, 0xFFFFFFFFFFFF, 0xFFFF, 1, 82, 1};
+    uint8_t entry[96];
+    put_named(entry);
     expect_name("name", entry, 88, named);
     expect_name("name in more bytes", entry, sizeof entry, named);
     expect_name("entry a byte short", entry, 87, no_entry);
     expect_name("no bytes", entry, 0, no_entry);
     expect_name("bytes for no header", entry, 15, no_entry);
     put(entry + 12, 2, 2);
-    expect_name("LAST_ENTRY", entry, 88, none);
-    put(entry + 12, 2, 0);
+    expect_name("LAST_ENTRY", entry, 88, unnamed);
+    put_named(entry);
+    put(entry + 8, 2, 15);
+    expect_name("length 15", entry, sizeof entry, no_entry);
+    put(entry + 8, 2, 16);
+    expect_name("length 16", entry, sizeof entry, outside);
+    put_named(entry);
+    put(entry, 8, UINT64_MAX);
+    expect_name("every bit of the reference", entry, 88, large);
+}
+
+static void name_of_keys(void)
+{
+    static const uint64_t empty[] = {NTFS_NAMED, 0, 41, 3, 3, 82, 0};
+    uint8_t entry[96];
+    put_named(entry);
     put(entry + 10, 2, 72);
     expect_name("key to the entry's end", entry, 88, named);
     put(entry + 10, 2, 73);
@@ -149,27 +170,33 @@ static void name(void)
     put(entry + 10, 2, 65);
     expect_name("key without a namespace", entry, 88, unreadable);
     put(entry + 10, 2, 0);
-    expect_name("no key", entry, 88, none);
+    expect_name("no key", entry, 88, unnamed);
     put(entry + 10, 2, 66);
     entry[16 + 64] = 0;
     entry[16 + 65] = 3;
     expect_name("empty name", entry, 88, empty);
     entry[16 + 65] = 4;
     expect_name("namespace 4", entry, 88, unreadable);
-    put(entry + 8, 2, 15);
-    expect_name("length 15", entry, sizeof entry, no_entry);
-    put(entry + 8, 2, 16);
-    expect_name("length 16", entry, sizeof entry, outside);
-    put_entry(entry, 88, 0, 'A', 0);
-    put(entry, 8, UINT64_MAX);
-    expect_name("every bit of the reference", entry, 88, large);
+}
 
-    /* any bytes are safe, and a name told lies in them */
-    uint64_t seed = 1, answer[NTFS_NAME_WORDS], names = 0;
+static uint64_t next_number(void)
+{
+    static uint64_t seed = 1;
+    seed = seed * 6364136223846793005u + 1442695040888963407u;
+    return seed;
+}
+
+/* Any bytes are safe, and a name told lies in them. */
+static void name_of_any_bytes(void)
+{
+    static const uint8_t fields[] = {8, 10, 12, 16 + 64, 16 + 65};
+    uint64_t answer[NTFS_NAME_WORDS], names = 0;
+    uint8_t entry[96];
+    put_named(entry);
     for (int i = 0; i < 100000; i++) {
-        static const uint8_t fields[] = {8, 10, 12, 16 + 64, 16 + 65};
+        uint64_t seed = 0;
         for (size_t k = 0; k < sizeof fields; k++) {
-            seed = seed * 6364136223846793005u + 1442695040888963407u;
+            seed = next_number();
             entry[fields[k]] = (uint8_t)(seed >> 33 & (k < 2 ? 127 : 7));
         }
         size_t lent = seed >> 50 & 1 ? sizeof entry : seed >> 51 & 63;
@@ -187,18 +214,17 @@ static void name(void)
     }
 }
 
-int main(void)
+static const uint64_t in_root[] = {NTFS_ENTRY, 0, 0, NTFS_ROOT, ROOT_ENTRY, 88};
+static const uint64_t in_pool[] = {NTFS_ENTRY, 0, 1, NTFS_POOL, RECORD + 64, 88};
+static const uint64_t end[] = {NTFS_NONE, 0, 1, 0, 0, 0};
+
+static void list(void)
 {
-    static const uint64_t in_root[] = {NTFS_ENTRY, 0, 0, NTFS_ROOT, ROOT_ENTRY, 88};
-    static const uint64_t in_pool[] = {NTFS_ENTRY, 0, 1, NTFS_POOL, RECORD + 64, 88};
-    static const uint64_t end[] = {NTFS_NONE, 0, 1, 0, 0, 0};
-    static const uint64_t spent[] = {NTFS_REFUSED, NTFS_ALLOWANCE_SPENT, 0, 0, 0, 0};
-    static const uint64_t no_table[] = {NTFS_REFUSED, NTFS_TABLE_LENGTH, 0, 0, 0, 0};
-    static const uint64_t short_root[] = {NTFS_REFUSED, NTFS_ROOT_TOO_SHORT, 0, 0, 0, 0};
+    static const uint64_t spent[] = {NTFS_REFUSED, NTFS_REFUSED_ALLOWANCE_SPENT, 0, 0, 0, 0};
+    static const uint64_t short_root[] = {NTFS_REFUSED, NTFS_REFUSED_ROOT_TOO_SHORT, 0, 0, 0, 0};
     uint64_t cursor[NTFS_CURSOR_WORDS], fresh[NTFS_CURSOR_WORDS] = {1}, kept[NTFS_CURSOR_WORDS] = {0, 0, 12};
     uint64_t answer[NTFS_ANSWER_WORDS];
 
-    build();
     memset(cursor, 0xFF, sizeof cursor);
     ntfs_new_cursor(cursor);
     expect("new cursor", cursor, fresh, NTFS_CURSOR_WORDS);
@@ -216,21 +242,25 @@ int main(void)
     ntfs_new_cursor(cursor);
     ntfs_step(root, 31, pool, sizeof pool, RECORD, 9, cursor, answer);
     expect("short root", answer, short_root, NTFS_ANSWER_WORDS);
+}
 
-    for (unsigned unit = 0; unit < 65536; unit++)
-        table[unit] = (uint16_t)('a' <= unit && unit <= 'z' ? unit - 32 : unit);
+static void find(void)
+{
+    static const uint64_t no_table[] = {NTFS_REFUSED, NTFS_REFUSED_TABLE_LENGTH, 0, 0, 0, 0};
     expect_find("find b", 'b', 65536, in_root);
     expect_find("find c", 'c', 65536, in_pool);
     expect_find("find d", 'd', 65536, end);
     expect_find("find under a short table", 'b', 65535, no_table);
-    check();
-    name();
+}
 
-    /* any numbers are safe, and an entry told lies in what holds it */
-    uint64_t seed = 1;
+/* Any numbers are safe, and an entry told lies in what holds it. */
+static void step_of_any_numbers(void)
+{
+    uint64_t cursor[NTFS_CURSOR_WORDS], answer[NTFS_ANSWER_WORDS];
     for (int i = 0; i < 100000; i++) {
+        uint64_t seed = 0;
         for (int k = 0; k < NTFS_CURSOR_WORDS; k++) {
-            seed = seed * 6364136223846793005u + 1442695040888963407u;
+            seed = next_number();
             cursor[k] = (seed >> 40 & 3) ? seed >> 33 & 3 : seed >> (seed >> 58);
         }
         cursor[2] = seed >> 60 ? 0 : cursor[2];
@@ -241,6 +271,42 @@ int main(void)
             faults++;
         }
     }
+}
+
+/* Each array is written whole, and nothing behind it. */
+static void arrays(void)
+{
+    uint64_t cursor[NTFS_CURSOR_WORDS + 1], answer[NTFS_ANSWER_WORDS + 1], checked[NTFS_CHECK_WORDS + 1], name[NTFS_NAME_WORDS + 1];
+    uint8_t marks[4];
+    uint16_t unit = 'b';
+    memset(cursor, 0xFF, sizeof cursor), memset(answer, 0xFF, sizeof answer);
+    memset(checked, 0xFF, sizeof checked), memset(name, 0xFF, sizeof name);
+    ntfs_new_cursor(cursor);
+    ntfs_step(root, sizeof root, pool, sizeof pool, RECORD, 9, cursor, answer);
+    ntfs_find(root, sizeof root, pool, sizeof pool, RECORD, table, 65536, &unit, 1, 9, answer);
+    ntfs_check(root, sizeof root, pool, sizeof pool, RECORD, table, 65536, marks, sizeof marks, checked);
+    ntfs_entry_name(root, 0, name);
+    if (~(cursor[NTFS_CURSOR_WORDS] & answer[NTFS_ANSWER_WORDS] & checked[NTFS_CHECK_WORDS] & name[NTFS_NAME_WORDS])
+        || !~cursor[NTFS_CURSOR_WORDS - 1] || !~answer[NTFS_ANSWER_WORDS - 1] || !~checked[NTFS_CHECK_WORDS - 1]
+        || !~name[NTFS_NAME_WORDS - 1]) {
+        puts("arrays: not written whole, or written past their end");
+        faults++;
+    }
+}
+
+int main(void)
+{
+    build();
+    for (unsigned unit = 0; unit < 65536; unit++)
+        table[unit] = (uint16_t)('a' <= unit && unit <= 'z' ? unit - 32 : unit);
+    list();
+    find();
+    check();
+    name_of_entries();
+    name_of_keys();
+    name_of_any_bytes();
+    step_of_any_numbers();
+    arrays();
     puts(faults == 0 ? "c_api: every number is as it should be" : "c_api: failed");
     return faults != 0;
 }

@@ -8,8 +8,8 @@ mod workload;
 
 use made::table_t;
 use nt_string::u16strle::U16StrLe;
-use ntfs::indexes::NtfsFileNameIndex;
-use ntfs::{Ntfs, NtfsAttributeType, NtfsIndex, UpcaseOrd};
+use ntfs::structured_values::NtfsFileName;
+use ntfs::{Ntfs, UpcaseOrd};
 use std::hint::black_box;
 use std::rc::Rc;
 use std::time::Instant;
@@ -18,7 +18,7 @@ use workload::{rounds, workload, COUNTS};
 
 fn shortest(what: &str, count: usize, mut run: impl FnMut()) {
     let mut best = u128::MAX;
-    for _ in 0..rounds(count) / 5 {
+    for _ in 0..rounds(count) {
         let start = Instant::now();
         run();
         best = best.min(start.elapsed().as_nanos());
@@ -35,17 +35,7 @@ fn measure(count: usize) {
     let mut ntfs = Ntfs::new(&mut volume).unwrap();
     ntfs.read_upcase_table(&mut volume).unwrap();
     let file = ntfs.file(&mut volume, DIR).unwrap();
-    let (mut root_item, mut pool_item) = (None, None);
-    let mut attributes = file.attributes();
-    while let Some(item) = attributes.next(&mut volume) {
-        let item = item.unwrap();
-        match item.to_attribute().unwrap().ty().unwrap() {
-            NtfsAttributeType::IndexRoot => root_item = Some(item),
-            NtfsAttributeType::IndexAllocation => pool_item = Some(item),
-            _ => {}
-        }
-    }
-    let index = NtfsIndex::<NtfsFileNameIndex>::new(root_item.unwrap(), pool_item).unwrap();
+    let index = file.directory_index(&mut volume).unwrap();
 
     for (what, names, found) in [("lookup of names that are there", &work.there, true), ("lookup of absent names", &work.absent, false)] {
         let names: Vec<Vec<u8>> = names.iter().map(|name| name.iter().flat_map(|unit| unit.to_le_bytes()).collect()).collect();
@@ -53,7 +43,7 @@ fn measure(count: usize) {
             for name in &names {
                 let mut finder = index.finder();
                 let wanted = U16StrLe(black_box(name));
-                let answer = finder.find(&mut volume, |key: &ntfs::structured_values::NtfsFileName| wanted.upcase_cmp(&ntfs, &key.name()));
+                let answer = finder.find(&mut volume, |key: &NtfsFileName| wanted.upcase_cmp(&ntfs, &key.name()));
                 assert_eq!(answer.transpose().unwrap().is_some(), found);
             }
         });

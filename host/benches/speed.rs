@@ -46,11 +46,12 @@ fn measure(count: usize) {
             || sought.iter().for_each(|name| assert_eq!(plain.find(&table, black_box(name), 7).unwrap().0.is_some(), found)),
         );
     }
+    // Every entry is made use of, so that none is left out as unused.
     compare(
         "listing",
         count,
-        || assert_eq!(black_box(index).entries(u64::MAX).filter(Result::is_ok).count(), count),
-        || assert_eq!(black_box(plain).entries(u64::MAX).filter(Result::is_ok).count(), count),
+        || assert_eq!(black_box(index).entries(u64::MAX).map(|entry| black_box(entry.unwrap())).count(), count),
+        || assert_eq!(black_box(plain).entries(u64::MAX).map(|entry| black_box(entry.unwrap())).count(), count),
     );
     compare(
         "check",

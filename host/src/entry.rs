@@ -1,4 +1,6 @@
 //! An entry as a part of the lent memory, and what it says of its file.
+use core::fmt::{self, Write};
+
 use crate::ffi;
 use crate::Refusal;
 
@@ -23,7 +25,7 @@ impl<'d> NtfsIndexEntry<'d> {
     /// The entry that the words of an answer name.
     pub(crate) fn from_words(root: &'d [u8], pool: &'d [u8], words: &[u64; ffi::ANSWER_WORDS]) -> Self {
         let [_, _, _, holder, offset, size] = *words;
-        let (holder, held) = if holder == 0 { (Holder::Root, root) } else { (Holder::Pool, pool) };
+        let (holder, held) = if holder == ffi::ROOT { (Holder::Root, root) } else { (Holder::Pool, pool) };
         let (offset, size) = (offset as usize, size as usize);
         Self { bytes: &held[offset..offset + size], holder, offset }
     }
@@ -60,8 +62,8 @@ impl<'d> NtfsIndexEntry<'d> {
     pub fn key(&self) -> Option<Result<NtfsFileName<'d>, Refusal>> {
         let [what, refusal, _, _, namespace, offset, units] = self.words();
         match what {
-            0 => None,
-            1 => {
+            ffi::NONE => None,
+            ffi::NAMED => {
                 let (from, size) = (offset as usize, 2 * units as usize);
                 Some(Ok(NtfsFileName { bytes: &self.bytes[from..from + size], namespace: namespace as u8 }))
             }
@@ -83,7 +85,7 @@ impl NtfsFileReference {
         self.record
     }
 
-    /// How often that record had been used.
+    /// The sequence, which tells an earlier use of the record from a later one.
     pub fn sequence_number(&self) -> u16 {
         self.sequence
     }
@@ -115,5 +117,12 @@ impl<'d> NtfsFileName<'d> {
     /// 0 POSIX, 1 Win32, 2 DOS, 3 both of the last.
     pub fn namespace(&self) -> u8 {
         self.namespace
+    }
+}
+
+/// As [`chars`](NtfsFileName::chars).
+impl fmt::Display for NtfsFileName<'_> {
+    fn fmt(&self, f: &mut fmt::Formatter<'_>) -> fmt::Result {
+        self.chars().try_for_each(|c| f.write_char(c))
     }
 }

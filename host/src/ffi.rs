@@ -5,6 +5,15 @@ pub const ANSWER_WORDS: usize = 6;
 pub const CHECK_WORDS: usize = 3;
 pub const NAME_WORDS: usize = 7;
 
+// What the first number of an answer says.
+pub const NONE: u64 = 0;
+pub const ENTRY: u64 = 1;
+pub const PASSED: u64 = 1;
+pub const NAMED: u64 = 1;
+
+// Which slice holds an entry.
+pub const ROOT: u64 = 0;
+
 extern "C" {
     pub fn ntfs_new_cursor(cursor: *mut [u64; CURSOR_WORDS]);
 

@@ -1,15 +1,12 @@
 //! A directory's index: its listing, lookup in it, and its check.
+use core::fmt;
 use core::iter::FusedIterator;
 
 use crate::ffi;
 use crate::{NtfsIndexEntry, Refusal};
 
-// What the first number of an answer says.
-const NONE: u64 = 0;
-const ENTRY: u64 = 1;
-
 /// A directory as it is lent. Nothing is looked at before a listing, a lookup or a check.
-#[derive(Clone, Copy, Debug)]
+#[derive(Clone, Copy)]
 pub struct NtfsIndex<'d> {
     root: &'d [u8],
     pool: &'d [u8],
@@ -17,14 +14,16 @@ pub struct NtfsIndex<'d> {
 }
 
 impl<'d> NtfsIndex<'d> {
-    /// `root` is the value of `$INDEX_ROOT`, `pool` all index records with their update sequences undone, `cluster` the
-    /// volume's cluster size in bytes.
+    /// `root` is the value of `$INDEX_ROOT`, `pool` the whole value of `$INDEX_ALLOCATION`, unused records too, with update
+    /// sequences undone, or empty where the directory has none; `cluster` is the volume's cluster size in bytes. Where clusters are
+    /// larger than index records, VCNs count blocks of 512 bytes: `cluster` is 512 there.
     pub const fn new(root: &'d [u8], pool: &'d [u8], cluster: usize) -> Self {
         Self { root, pool, cluster }
     }
 
-    /// Lists every entry in the order of names. At most `allowance` records are opened; `u64::MAX` never ends a listing
-    /// of a sound directory, but a damaged one can hold as many entries as its records can be reached along eight levels.
+    /// Lists every entry in the tree's order; after a pass of the check that is the order of names. At most `allowance` records are
+    /// opened. `u64::MAX` is never spent, but a damaged directory may reach one record many times, and its listing may then be
+    /// very long.
     ///
     /// ```
     /// # use ntfs_index::NtfsIndex;
@@ -67,10 +66,10 @@ impl<'d> NtfsIndex<'d> {
     }
 
     /// Checks the whole directory: the count of records reached, or the first fault. After a pass
-    /// [`NtfsIndexFinder::find`], under the same table and with an allowance of 7 or more, finds a name exactly if
-    /// the listing holds an equal one.
+    /// [`NtfsIndexFinder::find`], under the same table and with an allowance of 7 or more, finds a name of at
+    /// most 255 units exactly if the listing holds an equal one.
     ///
-    /// `marks` has a byte for each record of the pool, at least. After a pass it is 1 where the record was reached and 0 where
+    /// `marks` has a byte for each record of the pool, at least; `pool.len() / 512` are always enough. After a pass it is 1 where the record was reached and 0 where
     /// not; on 19, 1 to 7 and 21 no mark changes; on any other refusal every record's mark is 0. Bytes past the number of records
     /// never change.
     ///
@@ -101,7 +100,7 @@ impl<'d> NtfsIndex<'d> {
             )
         };
         let [what, refusal, count] = answer;
-        if what == ENTRY {
+        if what == ffi::PASSED {
             Ok(count)
         } else {
             Err(Refusal::new(refusal, count))
@@ -112,10 +111,17 @@ impl<'d> NtfsIndex<'d> {
     fn answer(&self, words: &[u64; ffi::ANSWER_WORDS]) -> Option<Result<NtfsIndexEntry<'d>, Refusal>> {
         let [what, refusal, opened, ..] = *words;
         match what {
-            NONE => None,
-            ENTRY => Some(Ok(NtfsIndexEntry::from_words(self.root, self.pool, words))),
+            ffi::NONE => None,
+            ffi::ENTRY => Some(Ok(NtfsIndexEntry::from_words(self.root, self.pool, words))),
             _ => Some(Err(Refusal::new(refusal, opened))),
         }
+    }
+}
+
+/// The lengths of what is lent, not its bytes.
+impl fmt::Debug for NtfsIndex<'_> {
+    fn fmt(&self, f: &mut fmt::Formatter<'_>) -> fmt::Result {
+        write!(f, "NtfsIndex(root of {} bytes, pool of {}, clusters of {})", self.root.len(), self.pool.len(), self.cluster)
     }
 }
 
@@ -150,8 +156,9 @@ impl<'d> Iterator for NtfsIndexEntries<'d> {
         unsafe {
             ffi::ntfs_step(root.as_ptr(), root.len(), pool.as_ptr(), pool.len(), cluster, self.allowance, &mut self.cursor, &mut answer)
         };
-        self.opened = answer[2];
-        self.ended = answer[0] != ENTRY;
+        let [what, _, opened, ..] = answer;
+        self.opened = opened;
+        self.ended = what != ffi::ENTRY;
         self.index.answer(&answer)
     }
 }
@@ -159,7 +166,7 @@ impl<'d> Iterator for NtfsIndexEntries<'d> {
 impl FusedIterator for NtfsIndexEntries<'_> {}
 
 /// Finds entries by name.
-#[derive(Clone, Debug)]
+#[derive(Clone)]
 pub struct NtfsIndexFinder<'d, 't> {
     index: NtfsIndex<'d>,
     table: &'t [u16],
@@ -200,12 +207,19 @@ impl<'d> NtfsIndexFinder<'d, '_> {
                 &mut answer,
             )
         };
-        self.opened = answer[2];
+        let [_, _, opened, ..] = answer;
+        self.opened = opened;
         self.index.answer(&answer)
     }
 
     /// How many records the last lookup opened.
     pub fn opened(&self) -> u64 {
         self.opened
+    }
+}
+
+impl fmt::Debug for NtfsIndexFinder<'_, '_> {
+    fn fmt(&self, f: &mut fmt::Formatter<'_>) -> fmt::Result {
+        write!(f, "NtfsIndexFinder({:?}, allowance {}, opened {})", self.index, self.allowance, self.opened)
     }
 }

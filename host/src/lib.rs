@@ -7,6 +7,9 @@
 //! What the archive answers is proved, for any bytes (see `README.md` of the repository). What this crate adds is not proved: it hands
 //! slices over as pointers and lengths, and numbers back as types. It is kept thin for that reason, and tested.
 //!
+//! It links `target/staticlib/libc_api.a` of the repository, which `tools/native-staticlib c_api` makes, or the archive that the environment
+//! variable `NTFS_INDEX_ARCHIVE` names by its absolute path.
+//!
 //! ```
 //! use ntfs_index::NtfsIndex;
 //!
@@ -17,20 +20,19 @@
 //!
 //! for entry in index.entries(64) {
 //!     let entry = entry?;
-//!     let name: String = entry.key().unwrap()?.chars().collect();
-//!     assert_eq!(name, "A");
+//!     assert_eq!(entry.key().unwrap()?.to_string(), "A");
 //!     assert_eq!(entry.file_reference().file_record_number(), 41);
 //! }
 //!
-//! // Under the volume's upcase table a lookup regards no case.
+//! // Check first: after a pass a name is found exactly if it is listed. Before, "not found" says nothing.
 //! let table: Vec<u16> = (0..=0xFFFF).map(|u| if (0x61..=0x7A).contains(&u) { u - 32 } else { u }).collect();
-//! let found = index.finder(&table, 64).find("a").expect("it is there")?;
-//! assert_eq!(found.file_reference().sequence_number(), 3);
-//! assert!(index.finder(&table, 64).find("b").is_none());
-//!
-//! // After a pass, a name is found exactly if it is listed.
 //! let mut marks = [];
-//! assert_eq!(index.check(&table, &mut marks)?, 0);
+//! index.check(&table, &mut marks)?;
+//!
+//! // Under the volume's upcase table a lookup regards no case.
+//! let found = index.finder(&table, 7).find("a").expect("it is there")?;
+//! assert_eq!(found.file_reference().sequence_number(), 3);
+//! assert!(index.finder(&table, 7).find("b").is_none());
 //! # Ok::<(), ntfs_index::Refusal>(())
 //! ```
 #![no_std]

@@ -2,7 +2,7 @@
 mod made;
 
 use made::{directory, table_t, Directory, Sizes};
-use ntfs_index::{Holder, NtfsIndex, Refusal};
+use ntfs_index::{Holder, NtfsIndex, NtfsIndexEntry, Refusal};
 
 fn three() -> Directory {
     let names: Vec<Vec<u16>> = ["A", "B", "C"].iter().map(|name| name.encode_utf16().collect()).collect();
@@ -61,6 +61,27 @@ fn names_of_any_length_are_answered() {
         assert_eq!(index.finder(&table, 7).find(&long).unwrap().unwrap_err().number(), 20);
         assert_eq!(index.finder(&table[1..], 7).find(&long).unwrap().unwrap_err().number(), 19);
     }
+}
+
+#[test]
+fn text_is_utf_16_in_and_out() {
+    let (name, lone) = ("Größe € \u{1F50B}", vec![0x41, 0xD83D]);
+    let sizes = Sizes { record: 512, cluster: 512, root: 4096, extra: 0 };
+    let d = directory(&[lone.clone(), name.encode_utf16().collect()], sizes);
+    let table = table_t();
+    let mut finder = NtfsIndex::new(&d.root, &d.pool, d.cluster).finder(&table, 7);
+    let text = |entry: NtfsIndexEntry| entry.key().unwrap().unwrap().to_string();
+    assert_eq!(text(finder.find(name).unwrap().unwrap()), name);
+    assert_eq!(text(finder.find_units(&lone).unwrap().unwrap()), "A\u{FFFD}");
+}
+
+#[test]
+fn debug_shows_lengths_and_not_bytes() {
+    let d = three();
+    let table = table_t();
+    let finder = NtfsIndex::new(&d.root, &d.pool, d.cluster).finder(&table, 7);
+    let index = format!("NtfsIndex(root of {} bytes, pool of {}, clusters of 512)", d.root.len(), d.pool.len());
+    assert_eq!(format!("{finder:?}"), format!("NtfsIndexFinder({index}, allowance 7, opened 0)"));
 }
 
 #[test]

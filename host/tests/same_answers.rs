@@ -7,6 +7,7 @@ mod stored;
 use made::{directory, table_t, Directory, Sizes};
 use ntfs_index::{Holder, NtfsIndex, NtfsIndexEntry, Refusal};
 use numbers::Numbers;
+use std::collections::BTreeSet;
 
 /// A damaged index can hold more entries than anyone would list.
 const STEPS: usize = 2_000;
@@ -17,7 +18,16 @@ fn same_entry(entry: &NtfsIndexEntry, plain: &plain::Entry) -> bool {
         plain::Holder::Pool => Holder::Pool,
     };
     // The very part of the lent memory, not only the same bytes.
-    entry.bytes().as_ptr_range() == plain.bytes.as_ptr_range() && entry.holder() == holder && entry.offset() == plain.offset
+    let same_place =
+        entry.bytes().as_ptr_range() == plain.bytes.as_ptr_range() && entry.holder() == holder && entry.offset() == plain.offset;
+    let reference = entry.file_reference();
+    let same_reference = (reference.file_record_number(), reference.sequence_number()) == plain.reference();
+    let key = entry
+        .key()
+        .map(|key| key.map(|name| (name.bytes().as_ptr_range(), name.namespace())).map_err(|refusal| (refusal.number(), refusal.opened())));
+    let plain_key =
+        plain.file_name().map(|key| key.map(|(name, namespace)| (name.as_ptr_range(), namespace)).map_err(|number| (number, 0)));
+    same_place && same_reference && key == plain_key
 }
 
 fn same_refusal(refusal: &Refusal, plain: &plain::Refused) -> bool {
@@ -169,12 +179,40 @@ fn damage(numbers: &mut Numbers, d: &mut Directory) {
     }
 }
 
+/// The refusals met so far, 0 where there was none.
+#[derive(Default)]
+struct Seen {
+    listing: BTreeSet<u64>,
+    check: BTreeSet<u64>,
+    find: BTreeSet<u64>,
+}
+
+/// Lists, checks and looks up both ways, with an allowance and marks of any length.
+fn try_all(numbers: &mut Numbers, d: &Directory, table: &[u16], sought: &[Vec<u16>], seen: &mut Seen) {
+    let allowance = one_of(numbers, &[0, 1, 2, 7, 64, u64::MAX]);
+    seen.listing.insert(list(d, allowance).1.unwrap_or(0));
+    let mut marks = all_marks(d);
+    marks.truncate(one_of(numbers, &[1000, 1000, 1000, 1000, 1, 0]));
+    let checked = check(d, table, &marks);
+    seen.check.insert(checked);
+    let folded = |name: &Vec<u16>| name.iter().map(|unit| table[usize::from(*unit)]).collect::<Vec<u16>>();
+    let listed = listed_names(d);
+    for name in listed.iter().chain(sought).take(40).chain([&vec![], &vec![0x41; 255], &vec![0x41; 256]]) {
+        let found = find(d, table, name, allowance);
+        seen.find.insert(found);
+        if checked == 0 && allowance >= 7 && name.len() < 256 {
+            let expected = listed.iter().any(|other| folded(other) == folded(name));
+            assert_eq!(found, u64::from(expected), "found exactly if listed");
+        }
+    }
+}
+
 #[test]
 fn damaged_directories() {
     let cases = std::env::var("CASES").map_or(60_000, |cases| cases.parse().unwrap());
     let tables = [table_t(), stored::table(), (0..=0xFFFF).collect(), vec![0x41; 65_536], vec![0; 65_535]];
     let stored = stored::directories();
-    let mut seen = std::collections::BTreeSet::new();
+    let mut seen = Seen::default();
     for case in 0..cases {
         let numbers = &mut Numbers::new(case);
         let table = &tables[one_of(numbers, &[0, 0, 0, 0, 0, 1, 1, 2, 3, 4])];
@@ -188,26 +226,10 @@ fn damaged_directories() {
             directory(&sought, sizes)
         };
         damage(numbers, &mut d);
-        let allowance = one_of(numbers, &[0, 1, 2, 7, 64, u64::MAX]);
-        seen.insert(("listing", list(&d, allowance).1.unwrap_or(0)));
-        let mut marks = all_marks(&d);
-        marks.truncate(one_of(numbers, &[1000, 1000, 1000, 1000, 1, 0]));
-        let checked = check(&d, table, &marks);
-        seen.insert(("check", checked));
-        let listed = listed_names(&d);
-        for name in listed.iter().chain(&sought).take(40).chain([&vec![], &vec![0x41; 256]]) {
-            let found = find(&d, table, name, allowance);
-            seen.insert(("find", found));
-            if checked == 0 && allowance >= 7 && name.len() < 256 {
-                let equal =
-                    |other: &&Vec<u16>| other.iter().map(|u| table[usize::from(*u)]).eq(name.iter().map(|u| table[usize::from(*u)]));
-                assert_eq!(found, u64::from(listed.iter().any(|other| equal(&other))), "found exactly if listed");
-            }
-        }
+        try_all(numbers, &d, table, &sought, &mut seen);
     }
-    let numbers = |what| seen.iter().filter(|(of, _)| *of == what).map(|(_, number)| *number).collect::<Vec<u64>>();
     // Every refusal that the three can give was met.
-    assert_eq!(numbers("listing"), (0..=17).collect::<Vec<u64>>());
-    assert_eq!(numbers("check"), (0..=25).filter(|number| ![12, 20].contains(number)).collect::<Vec<u64>>());
-    assert_eq!(numbers("find"), [0, 1].into_iter().chain(101..=120).collect::<Vec<u64>>());
+    assert!(seen.listing.into_iter().eq(0..=17));
+    assert!(seen.check.into_iter().eq((0..=25).filter(|number| ![12, 20].contains(number))));
+    assert!(seen.find.into_iter().eq([0, 1].into_iter().chain(101..=120)));
 }

@@ -5,7 +5,8 @@ use denote.Ref.{now}
 use Rattle.index_node.specs.Memory.{memory}
 use Rattle.checker.specs.Check.{checker}
 use Rattle.checker.proofs.check.Reads as reads
-use Rattle.checker.proofs.Demand.{passes-iff, found-iff, passes-iff-sorted, marks-of-a-pass, marks-kept, marks-cleared, found-exactly-if-listed, found-or-not-found}
+use Rattle.checker.proofs.Demand.{passes-iff, passes-iff-sorted, found-iff, found-exactly-if-listed, found-or-not-found}
+use Rattle.checker.proofs.Demand.{marks-of-a-pass, marks-kept, marks-cleared}
 use Rattle.checker.proofs.Reached.{reached-iff}
 use Rattle.claims.specs.Contract.{Leaves}
 use Rattle.claims.specs.Checker.{Pass, PassForAnyKind, ReachedByPath, Marks, MarksUnchanged, MarksCleared, FoundIffListed, FoundOrNot, FoundForAnyKind}

@@ -1,4 +1,4 @@
-// Listing and lookup of an index: src/index.rs.
+// The listing of an index, step by step, and the opening of a record: src/index.rs.
 ghost use mathlib.Core.Path.{_≡_};
 ghost use mathlib.Core.List.{[]};
 ghost use Prim.Native.Nat.{_+_, _≤_};

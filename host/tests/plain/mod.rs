@@ -44,6 +44,17 @@ pub struct Entry<'a> {
 }
 
 impl<'a> Entry<'a> {
+    /// Record number and sequence.
+    pub fn reference(&self) -> (u64, u16) {
+        (u64::from(u16_at(self.bytes, 4)) << 32 | u32_at(self.bytes, 0), u16_at(self.bytes, 6))
+    }
+
+    /// The name in the key, and its namespace; 9 and 18.
+    pub fn file_name(&self) -> Option<Result<(&'a [u8], u8), Number>> {
+        let key = self.key().transpose()?;
+        Some(key.and_then(|key| name_of(key).map(|name| (name, key[65]))))
+    }
+
     fn has_subnode(&self) -> bool {
         self.bytes[12] & 1 != 0
     }

@@ -1,4 +1,7 @@
 //! The real directories that the repository holds as captures, and the upcase table of their volumes.
+#[path = "../../examples/capture/mod.rs"]
+mod capture;
+
 use crate::made::Directory;
 use std::fs;
 use std::path::{Path, PathBuf};
@@ -7,24 +10,12 @@ fn folder() -> PathBuf {
     Path::new(env!("CARGO_MANIFEST_DIR")).join("../examples/real")
 }
 
-/// A capture's fields: root, cluster size, records.
-fn directory(capture: &[u8]) -> Directory {
-    let mut directory = Directory { root: Vec::new(), pool: Vec::new(), cluster: 0 };
-    let mut rest = capture;
-    while let [tag, low, high, after @ ..] = rest {
-        let (value, next) = after.split_at(usize::from(u16::from_le_bytes([*low, *high])));
-        match tag {
-            1 => directory.root = value.to_vec(),
-            2 => directory.cluster = u32::from_le_bytes(value.try_into().unwrap()) as usize,
-            3 => directory.pool.extend(value),
-            _ => assert_eq!((*tag, next.len()), (255, 0)),
-        }
-        rest = next;
-    }
-    directory
+fn directory(path: &Path) -> Directory {
+    let capture::Directory { root, pool, cluster } = capture::read(&fs::read(path).unwrap()).unwrap();
+    Directory { root, pool, cluster }
 }
 
-/// Each directory with its name and the listing that libntfs-3g's answers give for it.
+/// Each directory with its name and the expected listing stored beside it.
 pub fn directories() -> Vec<(String, Directory, String)> {
     let mut captures: Vec<PathBuf> = fs::read_dir(folder()).unwrap().map(|entry| entry.unwrap().path()).collect();
     captures.retain(|path| path.extension().is_some_and(|end| end == "capture"));
@@ -32,7 +23,7 @@ pub fn directories() -> Vec<(String, Directory, String)> {
     let read = |path: PathBuf| {
         let name = path.file_stem().unwrap().to_string_lossy().into_owned();
         let expected = fs::read_to_string(path.with_extension("expected")).unwrap();
-        (name, directory(&fs::read(&path).unwrap()), expected)
+        (name, directory(&path), expected)
     };
     captures.into_iter().map(read).collect()
 }
