@@ -10,7 +10,8 @@
 
 #include "ntfs_index.h"
 
-enum { UNITS = 65536, LONGEST = 255, ALLOWANCE = 64 };
+/* As many records as a capture can hold may be opened. */
+enum { UNITS = 65536, LONGEST = 255, ALLOWANCE = 112 };
 
 struct directory {
     uint8_t root[65536], pool[65536];

@@ -10,7 +10,8 @@ use ntfs_index::{NtfsIndex, NtfsIndexEntry, Refusal};
 use std::process::ExitCode;
 use std::{env, error, fs};
 
-const ALLOWANCE: u64 = 64;
+/// As many records as a capture can hold may be opened.
+const ALLOWANCE: u64 = 112;
 
 /// The file reference and the name.
 fn show(entry: &NtfsIndexEntry) -> String {
