@@ -1,4 +1,6 @@
 // Prints the bench examples P1 to P11 as the proved functions answer them.
+#![tactic(auto)]
+
 use index_allocation::Block;
 use index_entry::{EntryAt, KeyPart, Subnode};
 use ordering::Ordering;

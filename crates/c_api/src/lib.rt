@@ -1,4 +1,6 @@
 // The library for C and Rust: numbers and lent slices in, the answer as numbers in a lent array. include/ntfs_index.h tells it to a C caller.
+#![tactic(auto)]
+
 ghost use Rattle.std.specs.Prelude.{◌≡◌, ◌+◌, ◌≤◌};
 ghost use Rattle.file_name.specs.Name.{file_name_of};
 ghost use Rattle.index_node.specs.Memory.{memory};
@@ -28,7 +30,7 @@ const WORDS: usize = 43;
 const NAME_OFFSET: u64 = 82;
 
 // Where the bytes of an entry lie: in the root, 0, or in the pool, 1; from which byte; how many.
-#[derive(Drop)]
+#[derive(Clone, Copy)]
 struct Span {
     pub holder: u64,
     pub from: u64,

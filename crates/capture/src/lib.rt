@@ -1,4 +1,6 @@
 // A capture of a directory: its root, cluster size and records, as support staff send it.
+#![tactic(auto)]
+
 ghost use Rattle.std.specs.Prelude.{◌≡◌, ◌+◌, ◌*◌, ◌≤◌, ◌<◌, ◌++◌, ◌&&◌, eqb, length, drop};
 ghost use Rattle.std.proofs.Math.Seq.{paste};
 ghost use Rattle.capture.specs.Format.{
@@ -25,14 +27,14 @@ const MOST_BYTES: usize = 65535;
 const MOST_POOL: usize = 57344;
 
 // A field of the input: its tag and the number of its bytes.
-#[derive(Drop)]
+#[derive(Clone, Copy)]
 pub enum Field {
     Whole { tag: u8, size: usize },
     Cut,
 }
 
 // Where a capture's parts lie: the root's bytes start at 3; the first record's field starts at first.
-#[derive(Drop)]
+#[derive(Clone, Copy)]
 pub struct Layout {
     pub root: usize,
     pub cluster: usize,
@@ -41,7 +43,7 @@ pub struct Layout {
     pub count: usize,
 }
 
-#[derive(Drop)]
+#[derive(Clone, Copy)]
 pub enum Parsed {
     Capture(Layout),
     Refused(Refusal),

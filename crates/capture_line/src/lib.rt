@@ -1,4 +1,6 @@
 // The lines of a capture's listing, byte for byte.
+#![tactic(auto)]
+
 ghost use Rattle.std.specs.Prelude.{◌≡◌, [], ◌∷◌, ◌++◌, ◌+◌, ◌≤◌, ◌<◌, length, get_or};
 ghost use Rattle.file_reference.specs.Reference.{reference_of, record_number_of, sequence_of};
 ghost use Rattle.index_entry.specs.Entry.{key_of};

@@ -1,4 +1,6 @@
 // Prints what a capture holds. What is printed is decided in index and capture_line; here it is only written.
+#![tactic(auto)]
+
 use capture::Parsed;
 use index::Answer;
 use refusal::Refusal;

@@ -1,4 +1,6 @@
 // The checker: what lets an installer trust a stick.
+#![tactic(auto)]
+
 ghost use Rattle.std.specs.Prelude.{◌≡◌, suc, ◌+◌, ◌≤◌, ◌<◌, false, length, drop, set};
 ghost use Rattle.upcase_table.specs.Names.{table_units};
 ghost use Rattle.index_entry.specs.Entry.{key_of, subnode_of, subnode_says};
@@ -27,40 +29,40 @@ const UPCASE_CHARACTER_COUNT: usize = 65536;
 const LEVELS_BELOW_ROOT: usize = 7;
 
 // What the checker answers: a pass with the count of records reached, or the first fault with the count of records whose checks have passed.
-#[derive(Drop)]
+#[derive(Clone, Copy)]
 pub enum Checking {
     Passed(u64),
     Refused { refusal: Refusal, opened: u64 },
 }
 
 // Where an entry stands: its node as it was opened, so that no VCN is placed again to read its name, and its start there.
-#[derive(Drop)]
+#[derive(Clone, Copy)]
 struct Spot {
     pub node: View,
     pub at: usize,
 }
 
 // The name listed last, by where its entry stands.
-#[derive(Drop)]
+#[derive(Clone, Copy)]
 enum Before {
     Nothing,
     Name(Spot),
 }
 
-#[derive(Drop)]
+#[derive(Clone, Copy)]
 struct Walk {
     pub count: u64,
     pub before: Before,
 }
 
-#[derive(Drop)]
+#[derive(Clone, Copy)]
 enum Outcome {
     Fine(Walk),
     Fault { refusal: Refusal, count: u64 },
 }
 
 // An entry that shows no fault by itself.
-#[derive(Drop)]
+#[derive(Clone, Copy)]
 struct Sound {
     pub at: usize,
     pub next: usize,
@@ -68,7 +70,7 @@ struct Sound {
 }
 
 // What an entry shows by itself: 8, 23, 24, 9 and 18 of its key, 9 of its VCN; or it is sound, with or without a subnode.
-#[derive(Drop)]
+#[derive(Clone, Copy)]
 enum Judgement {
     Fault(Refusal),
     Leaf(Sound),
@@ -76,21 +78,21 @@ enum Judgement {
 }
 
 // A subnode's record, reached for the first time.
-#[derive(Drop)]
+#[derive(Clone, Copy)]
 enum Fresh {
     Refused(Refusal),
     Record { number: usize, view: View },
 }
 
 // After an entry and its subnode: the node is done, or goes on.
-#[derive(Drop)]
+#[derive(Clone, Copy)]
 enum Closed {
     Done(Outcome),
     Onward { walk: Walk, next: usize },
 }
 
 // What an entry comes to: the node is done, or goes on; or its subnode comes first, by a record not reached before.
-#[derive(Drop)]
+#[derive(Clone, Copy)]
 enum Visit {
     Done(Outcome),
     Onward {

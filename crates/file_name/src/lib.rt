@@ -1,4 +1,6 @@
 // A key read as a file name: src/structured_values/file_name.rs.
+#![tactic(auto)]
+
 ghost use Rattle.std.specs.Prelude.{◌≡◌, ◌<◌};
 ghost use Rattle.file_name.specs.Name.{file_name_of, name_of};
 
@@ -7,7 +9,7 @@ use refusal::Refusal;
 const FILE_NAME_HEADER_SIZE: usize = 66;
 
 // What a key says of its name: namespace and number of units, or 18.
-#[derive(Drop)]
+#[derive(Clone, Copy)]
 pub enum FileName {
     Name { namespace: u8, units: u8 },
     Refused(Refusal),

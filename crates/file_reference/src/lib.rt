@@ -1,8 +1,10 @@
 // A reference to a file record: src/file_reference.rs.
+#![tactic(auto)]
+
 ghost use Rattle.std.specs.Prelude.{◌≡◌};
 ghost use Rattle.file_reference.specs.Reference.{reference_of, record_number_of, sequence_of};
 
-#[derive(Drop)]
+#[derive(Clone, Copy)]
 pub struct FileReference {
     pub raw: u64,
 }

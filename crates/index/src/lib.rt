@@ -1,4 +1,6 @@
 // The listing of an index, step by step, and the opening of a record: src/index.rs.
+#![tactic(auto)]
+
 ghost use Rattle.std.specs.Prelude.{◌≡◌, [], ◌+◌, ◌≤◌};
 ghost use Rattle.index_node.specs.Memory.{memory};
 ghost use Rattle.index_node.specs.Node.{view_of};
@@ -15,7 +17,7 @@ use refusal::Refusal;
 const LEVELS: usize = 8;
 
 // Where a node's walk stands: not begun; at its next start; an entry put off there; past a LAST_ENTRY.
-#[derive(Drop)]
+#[derive(Clone, Copy)]
 pub enum Stage {
     Fresh,
     Going,
@@ -23,7 +25,7 @@ pub enum Stage {
     Ended,
 }
 
-#[derive(Drop)]
+#[derive(Clone, Copy)]
 pub struct Level {
     pub node: Node,
     pub next: usize,
@@ -31,13 +33,13 @@ pub struct Level {
 }
 
 // The refusal that every later step repeats.
-#[derive(Drop)]
+#[derive(Clone, Copy)]
 pub enum Kept {
     Nothing,
     Given(Refusal),
 }
 
-#[derive(Drop)]
+#[derive(Clone, Copy)]
 pub struct Cursor {
     pub levels: [Level; LEVELS],
     pub depth: usize,
@@ -45,21 +47,21 @@ pub struct Cursor {
     pub refusal: Kept,
 }
 
-#[derive(Drop)]
+#[derive(Clone, Copy)]
 pub enum Answer {
     Entry { place: Place, opened: u64 },
     Refused { refusal: Refusal, opened: u64 },
     End(u64),
 }
 
-#[derive(Drop)]
+#[derive(Clone, Copy)]
 pub struct Stepped {
     pub answer: Answer,
     pub cursor: Cursor,
 }
 
 // An entry as the walk meets it: its place, where the node goes on, whether it is a LAST_ENTRY, its subnode.
-#[derive(Drop)]
+#[derive(Clone, Copy)]
 struct Met {
     pub place: Place,
     pub next: usize,
@@ -67,7 +69,7 @@ struct Met {
     pub sub: Subnode,
 }
 
-#[derive(Drop)]
+#[derive(Clone, Copy)]
 enum Read {
     Over,
     Entry(Met),
@@ -75,14 +77,14 @@ enum Read {
 }
 
 // An entry put off, as it now stands.
-#[derive(Drop)]
+#[derive(Clone, Copy)]
 enum Standing {
     Entry(Place),
     Refused(Refusal),
 }
 
 // A move of the deepest level: it is dropped; it yields an entry and goes on at next; its entry is put off and the walk goes down; a refusal.
-#[derive(Drop)]
+#[derive(Clone, Copy)]
 enum Move {
     Pop,
     Yield { place: Place, next: usize },

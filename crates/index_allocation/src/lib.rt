@@ -1,4 +1,6 @@
 // Where a VCN leads: src/structured_values/index_allocation.rs, Vcn of src/types.rs.
+#![tactic(auto)]
+
 ghost use Rattle.std.specs.Prelude.{◌≡◌, ◌*◌, ◌<◌};
 ghost use Rattle.index_allocation.specs.Vcn.{block_of};
 ghost use Rattle.index_allocation.specs.Place.{record_in, record_at};
@@ -6,14 +8,14 @@ ghost use Rattle.index_allocation.specs.Place.{record_in, record_at};
 use refusal::Refusal;
 
 // A VCN that is no less than 0, or 13.
-#[derive(Drop)]
+#[derive(Clone, Copy)]
 pub enum Block {
     Number(usize),
     Refused(Refusal),
 }
 
 // The number of a record in the pool, from 0, or 13.
-#[derive(Drop)]
+#[derive(Clone, Copy)]
 pub enum Lies {
     Record(usize),
     Refused(Refusal),

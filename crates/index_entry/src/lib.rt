@@ -1,4 +1,6 @@
 // An entry of an index node: src/index_entry.rs.
+#![tactic(auto)]
+
 ghost use Rattle.std.specs.Prelude.{◌≡◌, ◌-◌, ◌<◌};
 ghost use Rattle.refusal.specs.Part.{bytes_of};
 ghost use Rattle.index_entry.specs.Entry.{entry_length_of, key_length_of, flags_of, has_subnode, is_last, entry_at, key_of, vcn_offset, subnode_of, entry_says, key_says, subnode_says};
@@ -8,14 +10,14 @@ use refusal::Refusal;
 const INDEX_ENTRY_HEADER_SIZE: usize = 16;
 
 // What stands at a start: an entry of that many bytes, or 8.
-#[derive(Drop)]
+#[derive(Clone, Copy)]
 pub enum EntryAt {
     Entry(usize),
     Refused(Refusal),
 }
 
 // Whether an entry has a key, or 9.
-#[derive(Drop)]
+#[derive(Clone, Copy)]
 pub enum KeyPart {
     Absent,
     Present,
@@ -23,7 +25,7 @@ pub enum KeyPart {
 }
 
 // Where an entry's subnode is, or 9.
-#[derive(Drop)]
+#[derive(Clone, Copy)]
 pub enum Subnode {
     Absent,
     Vcn(i64),

@@ -1,4 +1,6 @@
 // Lookup of a key in a directory: NtfsIndexFinder of src/index.rs.
+#![tactic(auto)]
+
 ghost use Rattle.std.specs.Prelude.{◌≡◌, length};
 ghost use Rattle.refusal.specs.Part.{present};
 ghost use Rattle.upcase_table.specs.Names.{table_units};
@@ -26,7 +28,7 @@ const LONGEST_NAME: usize = 255;
 const LEVELS_BELOW_ROOT: usize = 7;
 
 // What a lookup answers, each with the count of records opened.
-#[derive(Drop)]
+#[derive(Clone, Copy)]
 pub enum Finding {
     Found { place: Place, opened: u64 },
     NotFound(u64),
@@ -34,7 +36,7 @@ pub enum Finding {
 }
 
 // The sought name against an entry's key.
-#[derive(Drop)]
+#[derive(Clone, Copy)]
 enum Against {
     NoKey,
     Ordered(Ordering),
@@ -42,7 +44,7 @@ enum Against {
 }
 
 // What an entry says to a lookup: where to go on, or the answer.
-#[derive(Drop)]
+#[derive(Clone, Copy)]
 enum Visit {
     Found(Place),
     Onward(usize),

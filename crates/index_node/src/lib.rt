@@ -1,4 +1,6 @@
 // The nodes of an index over lent memory: the root, and the records of the pool.
+#![tactic(auto)]
+
 ghost use Rattle.std.specs.Prelude.{◌≡◌};
 ghost use Rattle.index_node.specs.Memory.{memory, part_of, record_bytes, view_bytes, place_bytes};
 ghost use Rattle.index_node.specs.Node.{record_view, view_of, next_in};
@@ -10,14 +12,14 @@ use index_root::RootRead;
 use refusal::Refusal;
 
 // Which node: the root, or the record at a VCN.
-#[derive(Drop)]
+#[derive(Clone, Copy)]
 pub enum Node {
     Root,
     Record(i64),
 }
 
 // A node: its bytes in the slice that holds it, and where in them its entries start and end.
-#[derive(Drop)]
+#[derive(Clone, Copy)]
 pub struct View {
     pub node: Node,
     pub from: usize,
@@ -26,14 +28,14 @@ pub struct View {
     pub used: usize,
 }
 
-#[derive(Drop)]
+#[derive(Clone, Copy)]
 pub enum Viewed {
     Fine(View),
     Refused(Refusal),
 }
 
 // An entry: the node that holds it, its offset there, its length.
-#[derive(Drop)]
+#[derive(Clone, Copy)]
 pub struct Place {
     pub node: Node,
     pub at: usize,
@@ -41,7 +43,7 @@ pub struct Place {
 }
 
 // What a node's walk meets at a position.
-#[derive(Drop)]
+#[derive(Clone, Copy)]
 pub enum Next {
     Over,
     Entry(Place),

@@ -1,4 +1,6 @@
 // A record of an index: src/index_record.rs, without fixup.
+#![tactic(auto)]
+
 ghost use Rattle.std.specs.Prelude.{◌≡◌, ◌<◌};
 ghost use Rattle.index_record.specs.Record.{same_vcn, record_of};
 
@@ -9,7 +11,7 @@ const INDEX_RECORD_HEADER_SIZE: usize = 24;
 const INDX: u32 = 0x58444E49;
 
 // Where a record's entries start and end, or 14 to 17.
-#[derive(Drop)]
+#[derive(Clone, Copy)]
 pub enum RecordRead {
     Record { start: usize, used: usize },
     Refused(Refusal),

@@ -1,4 +1,6 @@
 // The root of an index: src/structured_values/index_root.rs.
+#![tactic(auto)]
+
 ghost use Rattle.std.specs.Prelude.{◌≡◌, ◌<◌};
 ghost use Rattle.index_root.specs.Root.{record_size_of, is_large, root_of};
 ghost use Rattle.index_root.specs.Sizes.{powers, one_of, allowed, sizes_judged, pool_judged, root_in};
@@ -14,7 +16,7 @@ const LARGEST_RECORD_SIZE: usize = 4096;
 const LARGEST_CLUSTER_SIZE: usize = 65536;
 
 // What the root's header says: record size, where its entries start and end, the large flag.
-#[derive(Drop)]
+#[derive(Clone, Copy)]
 pub struct IndexRoot {
     pub size: usize,
     pub start: usize,
@@ -22,13 +24,13 @@ pub struct IndexRoot {
     pub large: bool,
 }
 
-#[derive(Drop)]
+#[derive(Clone, Copy)]
 pub enum RootRead {
     Root(IndexRoot),
     Refused(Refusal),
 }
 
-#[derive(Drop)]
+#[derive(Clone, Copy)]
 pub enum Judged {
     Fine,
     Refused(Refusal),

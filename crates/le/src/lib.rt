@@ -1,4 +1,6 @@
 // Little-endian numbers in lent bytes. A number that does not lie in the slice is 0.
+#![tactic(auto)]
+
 ghost use Rattle.std.specs.Prelude.{◌≡◌, ◌+◌, ◌≤◌, ◌<◌, leb, length};
 ghost use Rattle.le.specs.Le.{bytes_at, le_at, signed64, signed_at};
 

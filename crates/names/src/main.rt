@@ -1,5 +1,7 @@
 // Prints the names of a directory, one a line: what a caller of the listing has to write.
 // Standard input: the root's length u32, the root, the pool; clusters of 512 bytes.
+#![tactic(auto)]
+
 ghost use Rattle.std.specs.Prelude.{◌<◌};
 
 use index::Answer;

@@ -1,4 +1,6 @@
 // Lists the entries of a capture: reads standard input, prints what it holds.
+#![tactic(auto)]
+
 fn main() {
     let mut input = io::large_buffer();
     let n = io::read_full(0, &mut input);

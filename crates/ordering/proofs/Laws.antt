@@ -1,6 +1,6 @@
 -- The order of lists under any mapping is total: the numbers' order is, and lists go by their first difference.
 -- Exchange and transitivity are proved; that it is reflexive and connected follows from exchange, for any comparison.
-use Rattle.core.specs.Prelude.{◌≡◌, ℕ, ◌<◌, true, false, ltb, ◌⊎◌, List, [], ◌∷◌}
+use Rattle.std.specs.Prelude.{◌≡◌, ℕ, ◌<◌, true, false, ltb, ◌⊎◌, List, [], ◌∷◌}
 use mathlib.Core.Path.{refl}
 use mathlib.Core.Logic.{inl, inr}
 use native.Mathlib.Omega.{arith}

@@ -1,5 +1,5 @@
 -- The order of two numbers, and of two lists of numbers that are mapped before they are compared.
-use Rattle.core.specs.Prelude.{ℕ, cond, List, [], ◌∷◌, nat_lt}
+use Rattle.std.specs.Prelude.{ℕ, cond, List, [], ◌∷◌, nat_lt}
 use Rattle.ordering.specs.declared.Ordering.{Ordering}
 use Rattle.ordering.specs.declared.Ordering.TheVariants.{Less, Equal, Greater}
 

@@ -1,5 +1,5 @@
 -- What every total comparison obeys, whatever it compares.
-use Rattle.core.specs.Prelude.{◌≡◌, ◌⊎◌}
+use Rattle.std.specs.Prelude.{◌≡◌, ◌⊎◌}
 use Rattle.ordering.specs.declared.Ordering.{Ordering}
 use Rattle.ordering.specs.declared.Ordering.TheVariants.{Less, Equal, Greater}
 

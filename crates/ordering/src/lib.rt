@@ -1,8 +1,10 @@
 // The answer of a comparison, as in core::cmp, and the comparison of two numbers.
-ghost use Rattle.core.specs.Prelude.{◌≡◌};
+#![tactic(auto)]
+
+ghost use Rattle.std.specs.Prelude.{◌≡◌};
 ghost use Rattle.ordering.specs.Order.{order};
 
-#[derive(Drop)]
+#[derive(Clone, Copy)]
 pub enum Ordering {
     Less,
     Equal,

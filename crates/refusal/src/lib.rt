@@ -1,8 +1,10 @@
 // The numbered refusals: every answer that is not a result is one of these.
+#![tactic(auto)]
+
 ghost use Rattle.std.specs.Prelude.{◌≡◌};
 ghost use Rattle.refusal.specs.Number.{number_of};
 
-#[derive(Drop)]
+#[derive(Clone, Copy)]
 pub enum Refusal {
     RootTooShort,
     RootStartOutside,

@@ -1,6 +1,8 @@
 // Replays stored cases: reads them from standard input and prints a line for each, as the proved functions answer.
 // A case: the size u32 of what follows, at most 65,536; operation u8, node u8 (0 root, 1 record), label length u16, position u32,
 // VCN i64, cluster size u32, root length u32, pool length u32; then the label, the root and the pool.
+#![tactic(auto)]
+
 ghost use Rattle.std.specs.Prelude.{◌<◌};
 
 use index::{Answer, Cursor};
@@ -165,7 +167,7 @@ fn run_case(case: &[u8], c: Cursor) -> Cursor {
     after
 }
 
-#[derive(Drop)]
+#[derive(Clone, Copy)]
 struct Ran {
     whole: bool,
     cursor: Cursor,

@@ -1,4 +1,6 @@
 // Replays stored captures: the size u32 of each and its bytes on standard input; prints what ntfs_capture prints of it.
+#![tactic(auto)]
+
 fn wide(x: u32) -> usize {
     x as usize
 }

@@ -4,6 +4,8 @@
 //   1 memory: cluster size u32, root length u32, pool length u32, the root, the pool. Kept for the cases that follow.
 //   2 the table T, 3 the identity: nothing. 4, 5 the lower and the upper half of a table: 65,536 bytes. Kept too.
 //   6 a check: how many marks are lent u32, the byte in each of them u32, how many units of the table are lent u32, its label.
+#![tactic(auto)]
+
 ghost use Rattle.std.specs.Prelude.{◌<◌};
 
 use checker::Checking;

@@ -5,6 +5,8 @@
 //   6 a listing: its label. 7 a lookup: length u32 of the label, the label, the name's units.
 //   8 and 9 as 6 and 7, but an entry is shown by its file reference and name, and no count of records opened.
 //   10 the allowance u32, how many units of the table are lent u32, then as 7.
+#![tactic(auto)]
+
 ghost use Rattle.std.specs.Prelude.{◌<◌};
 
 use file_reference::FileReference;

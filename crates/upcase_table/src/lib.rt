@@ -1,4 +1,6 @@
 // The order of two names under a lent upcase table: upcase_cmp_iter of src/upcase_table.rs.
+#![tactic(auto)]
+
 ghost use Rattle.std.specs.Prelude.{◌≡◌, ◌+◌, ◌*◌, ◌≤◌, ◌<◌, ◌/◌, min, eqb, length, get_or};
 ghost use Rattle.ordering.specs.Order.{order};
 ghost use Rattle.upcase_table.specs.Names.{units_of, upcase, name_order, table_units, compared_names};
@@ -9,7 +11,7 @@ use refusal::Refusal;
 const UPCASE_CHARACTER_COUNT: usize = 65536;
 
 // What a comparison answers: the order, or 19.
-#[derive(Drop)]
+#[derive(Clone, Copy)]
 pub enum Compared {
     Ordered(Ordering),
     Refused(Refusal),
