@@ -1,0 +1,11 @@
+-- `read32`: 2 bytes, and 2 bytes above them.
+-- The law of every width, `join`, at these two.
+use native.Mathlib.Omega.{arith}
+use Rattle.le.proofs.Laws.{join}
+use borrow.Author.Rules.{rules}
+use Rattle.le.proofs.read32.Goals as goal
+
+pub returns : goal.returns
+returns c =
+    let a = c.args in
+    omega (arith, join 2 2 a.s.now a.at)
