@@ -1,9 +1,7 @@
 -- `le16`: the bytes that lie there are read, and a number that does not lie there is 0.
 -- One law for each arm of the test.
-use mathlib.Core.Path.{sym, ◌∙◌}
-use borrow.Author.Tests.{leb-true}
+use mathlib.Core.Path.{◌∙◌}
 use Rattle.le.proofs.Laws.{inside, outside}
-use borrow.Author.Rules.{rules}
 use Rattle.le.proofs.le16.Goals as goal
 
 pub returns-then-lies : goal.returns-then-lies

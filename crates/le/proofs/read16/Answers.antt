@@ -2,7 +2,6 @@
 -- The bounds of the bytes come with `wide`.
 use native.Mathlib.Omega.{arith}
 use Rattle.le.specs.Le.{bytes_at}
-use borrow.Author.Rules.{rules}
 use Rattle.le.proofs.read16.Goals as goal
 
 pub returns : goal.returns

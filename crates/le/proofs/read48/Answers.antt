@@ -2,7 +2,6 @@
 -- The law of every width, `join`, at these two.
 use native.Mathlib.Omega.{arith}
 use Rattle.le.proofs.Laws.{join}
-use borrow.Author.Rules.{rules}
 use Rattle.le.proofs.read48.Goals as goal
 
 pub returns : goal.returns
