@@ -24,6 +24,7 @@ fn lies(len: usize, at: usize, n: usize) -> bool
     true
 }
 
+#[tactic(auto, unfolding(crate::specs::Le::bytes_at))]
 fn read16(s: &[u8], at: usize) -> u16
     requires { at + 2 ≤ length s.now }
     ensures { result ≡ bytes_at 2 s.now at }
@@ -60,6 +61,7 @@ fn read64(s: &[u8], at: usize) -> u64
     low + 0x1_0000_0000 * high
 }
 
+#[tactic(auto, using(crate::proofs::Laws::inside, crate::proofs::Laws::outside))]
 pub fn le16(s: &[u8], at: usize) -> u16
     ensures { result ≡ le_at 2 s.now at }
 {
@@ -69,6 +71,7 @@ pub fn le16(s: &[u8], at: usize) -> u16
     0
 }
 
+#[tactic(auto, using(crate::proofs::Laws::inside, crate::proofs::Laws::outside))]
 pub fn le32(s: &[u8], at: usize) -> u32
     ensures { result ≡ le_at 4 s.now at }
 {
@@ -78,6 +81,7 @@ pub fn le32(s: &[u8], at: usize) -> u32
     0
 }
 
+#[tactic(auto, using(crate::proofs::Laws::inside, crate::proofs::Laws::outside))]
 pub fn le48(s: &[u8], at: usize) -> u64
     ensures { result ≡ le_at 6 s.now at }
 {
@@ -87,6 +91,7 @@ pub fn le48(s: &[u8], at: usize) -> u64
     0
 }
 
+#[tactic(auto, using(crate::proofs::Laws::inside, crate::proofs::Laws::outside))]
 pub fn le64(s: &[u8], at: usize) -> u64
     ensures { result ≡ le_at 8 s.now at }
 {
@@ -107,6 +112,7 @@ pub fn signed(x: u64) -> i64
     }
 }
 
+#[tactic(auto, unfolding(crate::specs::Le::signed_at))]
 pub fn signed_le64(s: &[u8], at: usize) -> i64
     ensures { result ≡ signed_at s.now at }
 {
