@@ -11,6 +11,7 @@ pub enum Ordering {
     Greater,
 }
 
+#[tactic(auto, unfolding(crate::specs::Order::order))]
 pub fn compare(a: u64, b: u64) -> Ordering
     ensures { result ≡ order a b }
 {
