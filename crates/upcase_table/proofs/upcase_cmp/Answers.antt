@@ -1,0 +1,11 @@
+-- `upcase_cmp`: the table is tested once, and then the names are compared.
+-- One law for each arm of the test.
+use Rattle.upcase_table.proofs.Laws.{ordered, refused}
+use borrow.Author.Rules.{rules}
+use Rattle.upcase_table.proofs.upcase_cmp.Goals as goal
+
+pub returns-then-table-eq-UPCASE_CHARACTER_COUNT : goal.returns-then-table-eq-UPCASE_CHARACTER_COUNT
+returns-then-table-eq-UPCASE_CHARACTER_COUNT c = ordered _ _ _ _ c.if-table-eq-UPCASE_CHARACTER_COUNT.true c.upcase_cmp_iter.ensures
+
+pub returns : goal.returns
+returns c = refused _ _ _ c.if-table-eq-UPCASE_CHARACTER_COUNT.false
