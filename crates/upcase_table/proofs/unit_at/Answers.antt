@@ -1,7 +1,6 @@
 -- `unit_at`: two bytes, the low one first, are the unit that the list of units has there.
 -- The law `unit_at` says so of every list of bytes.
 use Rattle.upcase_table.proofs.Laws.{unit_at}
-use borrow.Author.Rules.{rules}
 use Rattle.upcase_table.proofs.unit_at.Goals as goal
 
 pub returns : goal.returns

@@ -1,10 +1,8 @@
 -- `upcase_cmp_iter`: the loop goes up the units where the definition goes down its lists; the invariant is `Comparing`.
 -- Each turn cites `differed` or `agreed`: the two units decide, or the rest does. After the loop the lengths decide.
 use mathlib.Core.Path.{refl, sym, ◌∙◌}
-use Prim.Native.Nat.{◌-◌}
-use Rattle.upcase_table.proofs.Laws.{units_length, Comparing, agreed, differed, lengths}
+use Rattle.upcase_table.proofs.Laws.{units_length, agreed, differed, lengths}
 use borrow.Author.Rules.{rules}
-use Rattle.upcase_table.specs.Names.{units_of, upcase, name_order}
 use Rattle.upcase_table.proofs.upcase_cmp_iter.Goals as goal
 
 pub loop-i-init : goal.loop-i-init

@@ -1,7 +1,6 @@
 -- `upcase_cmp_keys`: the table is tested once, and then the names are compared.
 -- One law for each arm of the test.
 use Rattle.upcase_table.proofs.Laws.{ordered, refused}
-use borrow.Author.Rules.{rules}
 use Rattle.upcase_table.proofs.upcase_cmp_keys.Goals as goal
 
 pub returns-then-table-eq-UPCASE_CHARACTER_COUNT : goal.returns-then-table-eq-UPCASE_CHARACTER_COUNT
