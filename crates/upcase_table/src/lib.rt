@@ -67,6 +67,7 @@ fn compare_units(table: &[u16], a: u16, b: u16) -> Ordering
     ordering::compare(number(x), number(y))
 }
 
+#[tactic(auto, using(crate::proofs::Laws::unit_at))]
 fn unit_at(s: &[u8], i: usize) -> u16
     requires { i < length s.now / 2 }
     ensures { result ≡ get_or (units_of s.now) i 0 }
@@ -116,6 +117,7 @@ fn upcase_cmp_iter_keys(table: &[u16], name: &[u8], other: &[u8]) -> Ordering
 }
 
 // A sought name, lent as units, against a name in a key's bytes.
+#[tactic(auto, using(crate::proofs::Laws::ordered, crate::proofs::Laws::refused))]
 pub fn upcase_cmp(table: &[u16], name: &[u16], other: &[u8]) -> Compared
     ensures { result ≡ compared_names table.now name.now (units_of other.now) }
 {
@@ -126,6 +128,7 @@ pub fn upcase_cmp(table: &[u16], name: &[u16], other: &[u8]) -> Compared
 }
 
 // Two names in keys' bytes.
+#[tactic(auto, using(crate::proofs::Laws::ordered, crate::proofs::Laws::refused))]
 pub fn upcase_cmp_keys(table: &[u16], name: &[u8], other: &[u8]) -> Compared
     ensures { result ≡ compared_names table.now (units_of name.now) (units_of other.now) }
 {
