@@ -1,7 +1,6 @@
 -- `from_bytes`: the number of the first eight bytes, as `le64` reads it.
 -- Nothing is asked of the bytes lent.
 use Rattle.file_reference.specs.Reference.{reference_of}
-use borrow.Author.Rules.{rules}
 use Rattle.file_reference.proofs.FileReference.from_bytes.Goals as goal
 
 pub returns : goal.returns
