@@ -13,6 +13,7 @@ impl FileReference {
     // 2 ^ 48: the record number lies below, the sequence above.
     pub const SPLIT: u64 = 0x1_0000_0000_0000;
 
+    #[tactic(auto, unfolding(crate::specs::Reference::reference_of))]
     pub fn from_bytes(bytes: &[u8]) -> Self
         ensures { result ≡ reference_of bytes.now }
     {
