@@ -30,6 +30,7 @@ fn is_same(a: i64, b: i64) -> bool
     a == b
 }
 
+#[tactic(auto, unfolding(crate::specs::Record::record_of))]
 pub fn read_record(bytes: &[u8], wanted: i64) -> RecordRead
     ensures { result ≡ record_of bytes.now wanted }
 {
