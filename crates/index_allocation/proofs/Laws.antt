@@ -1,6 +1,6 @@
 -- Where a record lies: one law for each answer of the code, and what a record that lies somewhere satisfies.
 -- All later proofs cite `lying` and `one_vcn`, and never look into the definition.
-use Prim.Native.Nat.{ℕ, ◌+◌, ◌-◌, ◌*◌, ◌/◌, ◌%◌, ◌≤◌, ◌<◌}
+use Prim.Native.Nat.{ℕ, ◌+◌, ◌*◌, ◌/◌, ◌%◌, ◌≤◌, ◌<◌}
 use mathlib.Core.Path.{◌≡◌, refl, sym, ap, ◌∙◌}
 use mathlib.Core.Bool.{Bool, true, false, cond}
 use native.Mathlib.Nat.{le-div_iff_mul-le, div-lt_iff_lt-mul, mod-add-div', mul-div_cancel}
@@ -10,7 +10,6 @@ use lib.Dec.{leb, eqb}
 use lib.IntN.{ℤ, pos, negsuc}
 use Rattle.logic.proofs.Cases.{it, look}
 use Rattle.refusal.specs.declared.Refusal.{Refusal}
-use Rattle.index_allocation.specs.declared.Block.TheVariants as Block
 use Rattle.index_allocation.specs.declared.Lies.TheVariants.{Record, Refused}
 use Rattle.index_allocation.specs.Vcn.{block_of}
 use Rattle.index_allocation.specs.Place.{nowhere, record_in, record_at}

@@ -2,7 +2,6 @@
 use Rattle.std.specs.Prelude.{ℕ, ◌+◌, ◌*◌, ◌/◌, ◌%◌, cond, leb, eqb, ℤ}
 use Rattle.refusal.specs.declared.Refusal.TheVariants.{VcnNowhere}
 use Rattle.index_allocation.specs.declared.Block.{Block}
-use Rattle.index_allocation.specs.declared.Block.TheVariants as Block
 use Rattle.index_allocation.specs.declared.Lies.{Lies}
 use Rattle.index_allocation.specs.declared.Lies.TheVariants.{Record, Refused}
 use Rattle.index_allocation.specs.Vcn.{block_of}

@@ -2,7 +2,7 @@
 -- The argument is read through its 64 bits, which hold it.
 use mir.Syntax.{w64}
 use mir.Facts.{to_z-of_z}
-use Rattle.index_allocation.proofs.Sign.{negative, plain, casts}
+use Rattle.index_allocation.proofs.Sign.{negative, plain}
 use Rattle.index_allocation.proofs.block_number.Goals as goal
 
 pub returns-then-vcn-lt0 : goal.returns-then-vcn-lt0

@@ -4,7 +4,6 @@ use mir.Syntax.{w64}
 use mir.Facts.{to_z-of_z}
 use borrow.Author.Tests.{eq-eqb, ne_eqb}
 use Rattle.index_allocation.specs.Place.{record_at}
-use borrow.Author.Rules.{rules}
 use Rattle.index_allocation.proofs.record_from_vcn.Goals as goal
 
 pub returns-then-size-eq0 : goal.returns-then-size-eq0

@@ -2,7 +2,6 @@
 -- One law for each answer.
 use native.Mathlib.Omega.{arith}
 use Rattle.index_allocation.proofs.Laws.{product_within, product_beyond, outside, askew, there}
-use borrow.Author.Rules.{rules}
 use Rattle.index_allocation.proofs.record_in.Goals as goal
 
 pub returns-then-len-cluster : goal.returns-then-len-cluster
