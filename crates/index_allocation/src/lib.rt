@@ -22,6 +22,7 @@ pub enum Lies {
 }
 
 // A negative VCN is refused before any multiplication.
+#[tactic(auto, using(crate::proofs::Sign::negative, crate::proofs::Sign::plain))]
 pub fn block_number(vcn: i64) -> Block
     ensures { result ≡ block_of vcn }
 {
@@ -32,6 +33,7 @@ pub fn block_number(vcn: i64) -> Block
 }
 
 // The product is made only where it stays within len.
+#[tactic(auto, using(crate::proofs::Laws::product_within, crate::proofs::Laws::product_beyond, crate::proofs::Laws::outside, crate::proofs::Laws::askew, crate::proofs::Laws::there))]
 fn record_in(vcn: usize, cluster: usize, size: usize, len: usize) -> Lies
     requires { (0 < cluster) × (0 < size) }
     ensures { result ≡ record_in (vcn * cluster) size len }
@@ -49,6 +51,7 @@ fn record_in(vcn: usize, cluster: usize, size: usize, len: usize) -> Lies
     Lies::Record(offset / size)
 }
 
+#[tactic(auto, unfolding(crate::specs::Place::record_at))]
 pub fn record_from_vcn(vcn: i64, cluster: usize, size: usize, len: usize) -> Lies
     ensures { result ≡ record_at vcn cluster size len }
 {
