@@ -3,7 +3,6 @@ use Rattle.std.specs.Prelude.{ℕ, ◌%◌, List, [], ◌∷◌, Bool, false, co
 use Rattle.refusal.specs.declared.Refusal.TheVariants.{LargeWithoutPool, SizeNotAllowed, PoolNotWholeRecords}
 use Rattle.index_root.specs.declared.IndexRoot.{IndexRoot}
 use Rattle.index_root.specs.declared.RootRead.{RootRead}
-use Rattle.index_root.specs.declared.RootRead.TheVariants as RootRead
 use Rattle.index_root.specs.declared.Judged.{Judged}
 use Rattle.index_root.specs.declared.Judged.TheVariants.{Fine, Refused}
 use Rattle.index_root.specs.Root.{root_of}

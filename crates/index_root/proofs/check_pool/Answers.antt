@@ -2,7 +2,6 @@
 -- Each return puts the outcome of the tests into the definition.
 use borrow.Author.Tests.{eq-eqb, ne_eqb}
 use Rattle.index_root.specs.Sizes.{pool_judged}
-use borrow.Author.Rules.{rules}
 use Rattle.index_root.proofs.check_pool.Goals as goal
 
 pub returns-then-root : goal.returns-then-root

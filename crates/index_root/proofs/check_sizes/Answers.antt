@@ -4,7 +4,6 @@ use mathlib.Core.Path.{sym, ◌∙◌}
 use borrow.Author.Tests.{eq-eqb, ne_eqb}
 use Rattle.index_root.specs.Sizes.{sizes_judged}
 use Rattle.index_root.proofs.Laws.{allowed_above}
-use borrow.Author.Rules.{rules}
 use Rattle.index_root.proofs.check_sizes.Goals as goal
 
 pub nonzero_rem-len : goal.nonzero_rem-len

@@ -2,7 +2,6 @@
 -- One law for each arm of the test.
 use mathlib.Core.Path.{◌∙◌}
 use Rattle.index_root.proofs.Laws.{allowed_not, allowed_power}
-use borrow.Author.Rules.{rules}
 use Rattle.index_root.proofs.is_allowed.Goals as goal
 
 pub returns-then-most-n : goal.returns-then-most-n

@@ -1,7 +1,6 @@
 -- `open_root`: 1 to 4, and then 5 to 7.
 -- Each arm puts what the two callees answered into the definition.
 use Rattle.index_root.specs.Sizes.{root_in}
-use borrow.Author.Rules.{rules}
 use Rattle.index_root.proofs.open_root.Goals as goal
 
 pub returns-in-Refused : goal.returns-in-Refused

@@ -2,7 +2,6 @@
 -- Each return puts their outcome into the definition.
 use borrow.Author.Tests.{lt-ltb, le-ltb, le-leb, lt-leb}
 use Rattle.index_root.specs.Root.{root_of}
-use borrow.Author.Rules.{rules}
 use Rattle.index_root.proofs.read_root.Goals as goal
 
 pub returns-then-len : goal.returns-then-len
