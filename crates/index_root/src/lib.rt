@@ -59,6 +59,7 @@ pub fn is_large_index(root: &[u8]) -> bool
 }
 
 // 1 to 4.
+#[tactic(auto, unfolding(crate::specs::Root::root_of))]
 pub fn read_root(root: &[u8]) -> RootRead
     ensures { result ≡ root_of root.now }
 {
@@ -117,6 +118,7 @@ fn is_power(n: usize) -> bool
     false
 }
 
+#[tactic(auto, using(crate::proofs::Laws::allowed_not, crate::proofs::Laws::allowed_power))]
 fn is_allowed(most: usize, n: usize) -> bool
     ensures { result ≡ allowed most n }
 {
@@ -127,6 +129,7 @@ fn is_allowed(most: usize, n: usize) -> bool
 }
 
 // 6 and 7 of a pool of len bytes that is not empty.
+#[tactic(auto, using(crate::proofs::Laws::allowed_above), unfolding(crate::specs::Sizes::sizes_judged))]
 pub fn check_sizes(size: usize, cluster: usize, len: usize) -> Judged
     ensures { result ≡ sizes_judged size cluster len }
 {
@@ -143,6 +146,7 @@ pub fn check_sizes(size: usize, cluster: usize, len: usize) -> Judged
 }
 
 // 5 to 7 of a pool of len bytes.
+#[tactic(auto, unfolding(crate::specs::Sizes::pool_judged))]
 pub fn check_pool(root: IndexRoot, cluster: usize, len: usize) -> Judged
     ensures { result ≡ pool_judged root cluster len }
 {
@@ -156,6 +160,7 @@ pub fn check_pool(root: IndexRoot, cluster: usize, len: usize) -> Judged
 }
 
 // 1 to 7 of a root beside a pool of len bytes.
+#[tactic(auto, unfolding(crate::specs::Sizes::root_in))]
 pub fn open_root(root: &[u8], cluster: usize, len: usize) -> RootRead
     ensures { result ≡ root_in root.now cluster len }
 {
