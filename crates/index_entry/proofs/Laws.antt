@@ -15,7 +15,6 @@ use Rattle.le.proofs.Laws.{part}
 use Rattle.refusal.specs.declared.Refusal.{Refusal}
 use Rattle.index_entry.specs.declared.EntryAt.TheVariants as EntryAt
 use Rattle.index_entry.specs.declared.KeyPart.{KeyPart}
-use Rattle.index_entry.specs.declared.KeyPart.TheVariants as KeyPart
 use Rattle.refusal.specs.Part.{Part, absent, refused, present, bytes_of}
 use Rattle.index_entry.specs.Entry.{header_size, entry_length_of, key_length_of, is_last, entry_at, key_of, entry_says, key_says}
 

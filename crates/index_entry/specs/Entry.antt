@@ -3,11 +3,8 @@ use Rattle.std.specs.Prelude.{ℕ, ◌+◌, ◌-◌, ◌/◌, ◌%◌, max, List
 use Rattle.le.specs.Le.{le_at, signed_at}
 use Rattle.refusal.specs.declared.Refusal.TheVariants.{EntrySize, EntryDataRange}
 use Rattle.index_entry.specs.declared.EntryAt.{EntryAt}
-use Rattle.index_entry.specs.declared.EntryAt.TheVariants as EntryAt
 use Rattle.index_entry.specs.declared.KeyPart.{KeyPart}
-use Rattle.index_entry.specs.declared.KeyPart.TheVariants as KeyPart
 use Rattle.index_entry.specs.declared.Subnode.{Subnode}
-use Rattle.index_entry.specs.declared.Subnode.TheVariants as Subnode
 use Rattle.refusal.specs.Part.{Part, absent, refused, present}
 
 -- the header's bytes, before any key

@@ -3,7 +3,6 @@
 use borrow.Author.Tests.{lt-ltb, le-ltb}
 use Rattle.logic.proofs.Lists.{part_length}
 use Rattle.index_entry.specs.Entry.{entry_at}
-use borrow.Author.Rules.{rules}
 use Rattle.index_entry.proofs.entry_at.Goals as goal
 
 pub returns-then-remains-lt-INDEX_ENTRY_HEADER_SIZE : goal.returns-then-remains-lt-INDEX_ENTRY_HEADER_SIZE

@@ -1,9 +1,8 @@
 -- `entry_bytes`: an entry that `entry_at` answers lies within the node, by `entry_part_lem`.
 -- The part is the entry of the definition; where 8 is given there is none.
-use Rattle.index_entry.specs.Entry.{entry_at}
 use mathlib.Core.Path.{sym, ◌∙◌}
 use native.Mathlib.Nat.{add-sub_cancel_left}
-use Rattle.index_entry.proofs.Laws.{entry_part_lem, entry_none}
+use Rattle.index_entry.proofs.Laws.{entry_part_lem}
 use borrow.Author.Rules.{rules}
 use Rattle.index_entry.proofs.entry_bytes.Goals as goal
 

@@ -2,7 +2,6 @@
 -- Each return puts their outcome into the definition.
 use borrow.Author.Tests.{lt-ltb, le-ltb, eq-eqb, ne_eqb}
 use Rattle.index_entry.specs.Entry.{key_of}
-use borrow.Author.Rules.{rules}
 use Rattle.index_entry.proofs.key.Goals as goal
 
 pub returns-then-length-eq0 : goal.returns-then-length-eq0

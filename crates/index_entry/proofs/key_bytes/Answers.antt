@@ -1,10 +1,8 @@
 -- `key_bytes`: a key that `key` finds lies within the entry, by `key_part`.
 -- The part is the key of the definition; where there is none, or 9 is given, it is empty.
-use Rattle.index_entry.specs.Entry.{key_of}
 use mathlib.Core.Path.{sym, ◌∙◌}
 use native.Mathlib.Nat.{add-sub_cancel_left}
-use Rattle.index_entry.proofs.Laws.{key_part, key_none}
-use borrow.Author.Rules.{rules}
+use Rattle.index_entry.proofs.Laws.{key_part}
 use Rattle.index_entry.proofs.key_bytes.Goals as goal
 
 pub slice_bounds-result-end : goal.slice_bounds-result-end
