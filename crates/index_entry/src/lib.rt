@@ -47,6 +47,7 @@ fn remaining(len: usize, at: usize) -> usize
     len - at
 }
 
+#[tactic(auto, using(logic::proofs::Lists::part_length), unfolding(crate::specs::Entry::entry_at))]
 pub fn entry_at(node: &[u8], at: usize) -> EntryAt
     ensures { result ≡ entry_says (entry_at node.now at) }
 {
@@ -110,6 +111,7 @@ pub fn is_last_entry(entry: &[u8]) -> bool
     flags(entry) / 2 % 2 == 1
 }
 
+#[tactic(auto, unfolding(crate::specs::Entry::key_of))]
 pub fn key(entry: &[u8]) -> KeyPart
     ensures { result ≡ key_says (key_of entry.now) }
 {
@@ -127,6 +129,7 @@ pub fn key(entry: &[u8]) -> KeyPart
 }
 
 // The key's bytes, a part of the entry's; nothing where there is no key or 9 is given.
+#[tactic(auto, using(crate::proofs::Laws::key_part))]
 pub fn key_bytes(entry: &[u8]) -> &[u8]
     ensures { result.now ≡ bytes_of (key_of entry.now) }
 {
@@ -150,6 +153,7 @@ fn vcn_offset(size: usize) -> usize
     size - 8
 }
 
+#[tactic(auto, unfolding(crate::specs::Entry::subnode_of))]
 pub fn subnode_vcn(entry: &[u8]) -> Subnode
     ensures { result ≡ subnode_says (subnode_of entry.now) }
 {
