@@ -4,7 +4,6 @@ use mathlib.Core.Path.{sym, ◌∙◌}
 use native.Mathlib.Nat.{add-sub_cancel_left}
 use Rattle.file_name.specs.Name.{name_of}
 use Rattle.file_name.proofs.Laws.{within}
-use borrow.Author.Rules.{rules}
 use Rattle.file_name.proofs.name.Goals as goal
 
 pub slice_bounds-result-end : goal.slice_bounds-result-end

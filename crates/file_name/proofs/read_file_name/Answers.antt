@@ -2,7 +2,6 @@
 -- Each return puts their outcome into the definition.
 use borrow.Author.Tests.{lt-ltb, le-ltb}
 use Rattle.file_name.specs.Name.{file_name_of}
-use borrow.Author.Rules.{rules}
 use Rattle.file_name.proofs.read_file_name.Goals as goal
 
 pub returns-then-key-lt-FILE_NAME_HEADER_SIZE : goal.returns-then-key-lt-FILE_NAME_HEADER_SIZE
