@@ -21,6 +21,7 @@ fn wide(x: u8) -> usize
     x as usize
 }
 
+#[tactic(auto, unfolding(crate::specs::Name::file_name_of))]
 pub fn read_file_name(key: &[u8]) -> FileName
     ensures { result ≡ file_name_of key.now }
 {
@@ -39,6 +40,7 @@ pub fn read_file_name(key: &[u8]) -> FileName
 }
 
 // The name's bytes as that very part of the key; nothing where the key is unreadable.
+#[tactic(auto, using(crate::proofs::Laws::within), unfolding(crate::specs::Name::name_of))]
 pub fn name(key: &[u8]) -> &[u8]
     ensures { result.now ≡ name_of key.now }
 {
