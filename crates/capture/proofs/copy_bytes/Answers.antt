@@ -1,8 +1,6 @@
 -- `copy_bytes`: the loop stores one byte at a time; the invariant is `Copying`, the copy of those before i.
 -- After the last the copy is whole.
-use Prim.Native.Nat.{◌-◌}
-use borrow.Author.Rules.{rules}
-use Rattle.capture.proofs.Laws.{Copying, copy_begins, copied, copy_ends}
+use Rattle.capture.proofs.Laws.{copied}
 use Rattle.capture.proofs.copy_bytes.Goals as goal
 
 pub loop-i-preserved : goal.loop-i-preserved

@@ -1,8 +1,7 @@
 -- `copy_records`: one record a turn, left counts them down as the definition does; the invariant is `Filling`.
 -- After the last the pool holds the whole, and beyond it what it held.
-use borrow.Author.Rules.{rules}
 use Rattle.capture.specs.Format.{pool_from}
-use Rattle.capture.proofs.Laws.{Filling, fill_begins, next_in_lem, next_to, filled_on, fill_ends}
+use Rattle.capture.proofs.Laws.{Filling}
 use Rattle.capture.proofs.copy_records.Given as goal
 
 abbrev pub invariant-loop-left : goal.invariant-loop-left

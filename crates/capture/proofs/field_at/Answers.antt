@@ -3,7 +3,6 @@
 use mathlib.Core.Path.{◌∙◌}
 use native.Mathlib.Omega.{arith}
 use Rattle.capture.proofs.Laws.{no_head, no_bytes, whole_field}
-use borrow.Author.Rules.{rules}
 use Rattle.capture.proofs.field_at.Goals as goal
 
 pub returns-then-len-lt-HEAD_SIZE : goal.returns-then-len-lt-HEAD_SIZE

@@ -1,7 +1,7 @@
 -- `read_first`: the first record says how long each is; the rest is `read_records`.
 -- Each return cites the law of its outcome.
 use mathlib.Core.Path.{sym, ◌∙◌}
-use Rattle.capture.proofs.Laws.{size_within, first_cut, first_read, first_other}
+use Rattle.capture.proofs.Laws.{size_within}
 use borrow.Author.Rules.{rules}
 use Rattle.capture.proofs.read_first.Goals as goal
 

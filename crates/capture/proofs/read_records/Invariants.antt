@@ -1,11 +1,9 @@
 -- `read_records`: the loop counts up where the definition's allowance counts down; the invariant is `Reading`.
 -- Each return cites the law of its outcome.
 use Prim.Native.Nat.{◌+◌, ◌-◌}
-use mathlib.Core.Path.{sym, ◌∙◌}
 use lib.ListN.{length}
-use borrow.Author.Rules.{rules}
 use Rattle.capture.specs.Format.{records_from}
-use Rattle.capture.proofs.Laws.{layout, Reading, begins, again, cut_off, ends, neither, spent}
+use Rattle.capture.proofs.Laws.{layout, Reading}
 use Rattle.capture.proofs.read_records.Given as goal
 
 abbrev pub invariant-loop-count : goal.invariant-loop-count
