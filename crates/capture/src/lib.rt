@@ -62,6 +62,7 @@ fn wide32(x: u32) -> usize
 }
 
 // No sum wraps, wherever at is.
+#[tactic(auto, using(crate::proofs::Laws::no_head, crate::proofs::Laws::no_bytes, crate::proofs::Laws::whole_field))]
 fn field_at(s: &[u8], at: usize) -> Field
     ensures { result ≡ field_at s.now at }
 {
@@ -142,6 +143,7 @@ fn read_records(
     Parsed::Refused(Refusal::MalformedCapture)
 }
 
+#[tactic(auto, using(crate::proofs::Laws::size_within))]
 fn read_first(s: &[u8], root: usize, cluster: usize, at: usize) -> Parsed
     requires { (length s.now ≤ 65535) × (at ≤ 65550) }
     ensures { result ≡ first_record s.now root cluster at (field_at s.now at) }
