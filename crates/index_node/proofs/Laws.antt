@@ -1,6 +1,6 @@
 -- What the code's answers tell of the definitions, one law for each answer, over plain variables.
 -- And that the bytes handed out for a place are those of the entry that was met there.
-use Prim.Native.Nat.{ℕ, ◌+◌, ◌-◌, ◌*◌, ◌≤◌, ◌<◌}
+use Prim.Native.Nat.{ℕ, ◌+◌, ◌*◌, ◌≤◌, ◌<◌}
 use mathlib.Core.Path.{◌≡◌, refl, sym, ap, subst, ◌∙◌}
 use mathlib.Core.List.{List, []}
 use native.Mathlib.Omega.{arith}
@@ -21,7 +21,6 @@ use Rattle.index_record.specs.Record.{record_of}
 use Rattle.index_allocation.specs.declared.Lies.TheVariants as Lies
 use Rattle.index_allocation.proofs.Laws.{lying}
 use Rattle.index_entry.specs.declared.EntryAt.{EntryAt}
-use Rattle.index_entry.specs.declared.EntryAt.TheVariants as EntryAt
 use Rattle.index_entry.specs.Entry.{entry_at, entry_says}
 use Rattle.index_entry.proofs.Laws.{entered}
 use Rattle.index_node.specs.declared.Node.{Node}
@@ -29,7 +28,6 @@ use Rattle.index_node.specs.declared.Node.TheVariants.{Root, Record}
 use Rattle.index_node.specs.declared.View.{View}
 use Rattle.index_node.specs.declared.Viewed.TheVariants as Viewed
 use Rattle.index_node.specs.declared.Next.{Next}
-use Rattle.index_node.specs.declared.Next.TheVariants as Next
 use Rattle.index_node.specs.Memory.{Memory, part_of, placed, bytes_of_number, holder, node_bytes, record_bytes, view_bytes, place_bytes}
 use Rattle.index_node.specs.Node.{entry_next, next_in, view_of, record_view}
 

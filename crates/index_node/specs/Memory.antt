@@ -2,7 +2,6 @@
 use Rattle.std.specs.Prelude.{ℕ, ◌+◌, ◌*◌, List, [], cond, leb, ℤ, length, take, drop}
 use Rattle.index_root.specs.Root.{record_size_of}
 use Rattle.index_allocation.specs.declared.Lies.{Lies}
-use Rattle.index_allocation.specs.declared.Lies.TheVariants as Lies
 use Rattle.index_allocation.specs.Place.{record_at}
 use Rattle.index_node.specs.declared.Node.{Node}
 use Rattle.index_node.specs.declared.Node.TheVariants.{Root, Record}

@@ -3,14 +3,11 @@ use Rattle.std.specs.Prelude.{ℕ, ◌*◌, List, cond, ltb, ℤ, length}
 use Rattle.refusal.specs.declared.Refusal.TheVariants.{EntrySize}
 use Rattle.refusal.specs.Part.{Part, absent, refused, present}
 use Rattle.index_root.specs.declared.RootRead.{RootRead}
-use Rattle.index_root.specs.declared.RootRead.TheVariants as RootRead
 use Rattle.index_root.specs.Root.{record_size_of}
 use Rattle.index_root.specs.Sizes.{root_in}
 use Rattle.index_record.specs.declared.RecordRead.{RecordRead}
-use Rattle.index_record.specs.declared.RecordRead.TheVariants as RecordRead
 use Rattle.index_record.specs.Record.{record_of}
 use Rattle.index_allocation.specs.declared.Lies.{Lies}
-use Rattle.index_allocation.specs.declared.Lies.TheVariants as Lies
 use Rattle.index_allocation.specs.Place.{record_at}
 use Rattle.index_entry.specs.Entry.{entry_at}
 use Rattle.index_node.specs.declared.Node.{Node}
@@ -19,7 +16,6 @@ use Rattle.index_node.specs.declared.View.{View}
 use Rattle.index_node.specs.declared.Viewed.{Viewed}
 use Rattle.index_node.specs.declared.Viewed.TheVariants.{Fine, Refused}
 use Rattle.index_node.specs.declared.Next.{Next}
-use Rattle.index_node.specs.declared.Next.TheVariants as Next
 use Rattle.index_node.specs.Memory.{Memory, bytes_of_number}
 
 -- in the root nothing lies past the used end

@@ -1,7 +1,6 @@
 -- `next_entry`: past the used end the walk is over, and before it the entry is what `entry_at` says.
 -- One law for each arm.
 use Rattle.index_node.proofs.Laws.{next_over, next_said}
-use borrow.Author.Rules.{rules}
 use Rattle.index_node.proofs.next_entry.Goals as goal
 
 pub returns-then-used-at : goal.returns-then-used-at

@@ -1,7 +1,6 @@
 -- `node_bytes`: the part of the slice that holds the node.
 -- Each arm is `part`, for the node that it was told.
 use Rattle.index_node.specs.Memory.{view_bytes}
-use borrow.Author.Rules.{rules}
 use Rattle.index_node.proofs.node_bytes.Goals as goal
 
 pub returns-in-Root : goal.returns-in-Root

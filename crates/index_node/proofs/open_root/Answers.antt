@@ -1,7 +1,6 @@
 -- `open_root`: the root that `index_root::open_root` answers, as a node.
 -- Each arm puts that answer into the definition.
 use Rattle.index_node.specs.Node.{view_of}
-use borrow.Author.Rules.{rules}
 use Rattle.index_node.proofs.open_root.Goals as goal
 
 pub returns-in-Refused : goal.returns-in-Refused

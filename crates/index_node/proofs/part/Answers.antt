@@ -3,7 +3,6 @@
 use native.Mathlib.Omega.{arith}
 use native.Mathlib.Nat.{add-sub_cancel_left}
 use Rattle.index_node.proofs.Laws.{part_none, part_there}
-use borrow.Author.Rules.{rules}
 use Rattle.index_node.proofs.part.Goals as goal
 
 pub returns-then-s-size : goal.returns-then-s-size
