@@ -51,6 +51,7 @@ pub enum Next {
 }
 
 // The bytes from at, or none where they do not lie in s.
+#[tactic(auto, using(crate::proofs::Laws::part_none, crate::proofs::Laws::part_there))]
 fn part(s: &[u8], at: usize, size: usize) -> &[u8]
     ensures { result.now ≡ part_of s.now at size }
 {
@@ -97,6 +98,7 @@ fn open_record(pool: &[u8], cluster: usize, size: usize, vcn: i64) -> Viewed
     }
 }
 
+#[tactic(auto, unfolding(crate::specs::Node::view_of))]
 fn open_root<'a>(root: &'a [u8], pool: &'a [u8], cluster: usize) -> Viewed
     ensures { result ≡ view_of (memory root.now pool.now cluster) Node.Root }
 {
@@ -113,6 +115,7 @@ fn open_root<'a>(root: &'a [u8], pool: &'a [u8], cluster: usize) -> Viewed
 }
 
 // The root under 1 to 7, a record under 13 to 17.
+#[tactic(auto, unfolding(crate::specs::Node::view_of))]
 pub fn open_node<'a>(root: &'a [u8], pool: &'a [u8], cluster: usize, node: Node) -> Viewed
     ensures { result ≡ view_of (memory root.now pool.now cluster) node }
 {
@@ -125,6 +128,7 @@ pub fn open_node<'a>(root: &'a [u8], pool: &'a [u8], cluster: usize, node: Node)
 }
 
 // The bytes that a node's entries may take, out of the slice that holds the node.
+#[tactic(auto, unfolding(crate::specs::Memory::view_bytes))]
 pub fn node_bytes<'a>(root: &'a [u8], pool: &'a [u8], view: View) -> &'a [u8]
     ensures { result.now ≡ view_bytes root.now pool.now view }
 {
@@ -151,6 +155,7 @@ pub fn next_entry(bytes: &[u8], view: View, at: usize) -> Next
 }
 
 // The bytes of an entry by its place, out of the slice that the node names; none where the place names none.
+#[tactic(auto, unfolding(crate::specs::Memory::place_bytes))]
 pub fn place_bytes<'a>(root: &'a [u8], pool: &'a [u8], cluster: usize, place: Place) -> &'a [u8]
     ensures { result.now ≡ place_bytes (memory root.now pool.now cluster) place }
 {
