@@ -1,0 +1,15 @@
+-- `tidy_up`: the levels are copied into blanks, from the root down.
+-- The invariant: the first i of them are there.
+use mathlib.Core.Path.{◌≡◌}
+use native.Mathlib.Omega.{arith}
+use borrow.Author.Rules.{rules}
+use Prim.Native.Nat.{◌≤◌, ◌-◌}
+use Rattle.index.proofs.Arrays.{half, half_next, half_whole}
+use Rattle.index.specs.Step.{frames}
+use Rattle.index.proofs.tidy_up.Given as goal
+
+abbrev pub invariant-loop-i : goal.invariant-loop-i
+invariant-loop-i l = (l.i ≤ l.d) × (l.r ≡ half l.c l.i)
+
+abbrev pub decreases-loop-i : goal.decreases-loop-i
+decreases-loop-i l = l.d - l.i
