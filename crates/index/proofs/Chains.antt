@@ -13,7 +13,6 @@ use Rattle.index_entry.proofs.Laws.{entered, last_keyless}
 use Rattle.index_node.specs.declared.Node.{Node}
 use Rattle.index_node.specs.declared.View.{View}
 use Rattle.index_node.specs.declared.Viewed.{Viewed}
-use Rattle.index_node.specs.declared.Viewed.TheVariants as Viewed
 use Rattle.index_node.specs.Memory.{Memory, view_bytes}
 use Rattle.index_node.specs.Node.{view_of}
 use Rattle.index_node.proofs.Laws.{opened}

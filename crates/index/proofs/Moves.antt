@@ -14,7 +14,6 @@ use Rattle.index_node.specs.declared.Node.{Node}
 use Rattle.index_node.specs.declared.Node.TheVariants.{Record}
 use Rattle.index_node.specs.declared.View.{View}
 use Rattle.index_node.specs.declared.Viewed.{Viewed}
-use Rattle.index_node.specs.declared.Viewed.TheVariants as Viewed
 use Rattle.index_node.specs.declared.Place.{Place}
 use Rattle.index_node.specs.Memory.{Memory}
 use Rattle.index_node.specs.Node.{view_of}

@@ -13,11 +13,9 @@ use Rattle.refusal.specs.declared.Refusal.TheVariants.{EntrySize}
 use Rattle.refusal.specs.Part.{Part, absent, refused, present}
 use Rattle.index_allocation.specs.declared.Lies.TheVariants as Lies
 use Rattle.index_root.specs.declared.Judged.{Judged}
-use Rattle.index_root.specs.declared.Judged.TheVariants as Judged
 use Rattle.index_node.specs.declared.Node.{Node}
 use Rattle.index_node.specs.declared.Node.TheVariants.{Record}
 use Rattle.index_node.specs.declared.Viewed.{Viewed}
-use Rattle.index_node.specs.declared.Viewed.TheVariants as Viewed
 use Rattle.index_node.specs.declared.Place.{Place}
 use Rattle.index_node.specs.Memory.{Memory, placed}
 use Rattle.index_node.specs.Node.{view_of}

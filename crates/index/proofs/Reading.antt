@@ -17,7 +17,6 @@ use Rattle.index_root.specs.declared.Judged.TheVariants as Judged
 use Rattle.index_allocation.specs.declared.Lies.TheVariants as Lies
 use Rattle.ordering.specs.Order.{order}
 use Rattle.index_entry.specs.declared.EntryAt.{EntryAt}
-use Rattle.index_entry.specs.declared.EntryAt.TheVariants as EntryAt
 use Rattle.index_entry.specs.Entry.{is_last, entry_at, entry_says, key_of, subnode_of}
 use Rattle.index_entry.proofs.Laws.{entered}
 use Rattle.index_node.specs.declared.Node.{Node}
@@ -30,9 +29,7 @@ use Rattle.index_node.specs.Memory.{Memory, placed}
 use Rattle.index_node.specs.Node.{view_of, record_view, next_in}
 use Rattle.index.specs.declared.Met.{Met}
 use Rattle.index.specs.declared.Read.{Read}
-use Rattle.index.specs.declared.Read.TheVariants as Read
 use Rattle.index.specs.declared.Standing.{Standing}
-use Rattle.index.specs.declared.Standing.TheVariants as Standing
 use Rattle.index.specs.Entries.{Entry, Look, past, bad, met, entry_part, met_in, look_in, Entries, entries_at}
 use Rattle.index.specs.Walk.{dir_of, Opened, declined, opened, opening, unseen, opened_node}
 use Rattle.index.specs.Step.{judged_entry}

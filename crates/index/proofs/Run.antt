@@ -12,7 +12,6 @@ use Rattle.refusal.specs.declared.Refusal.{Refusal}
 use Rattle.index_root.specs.declared.Judged.TheVariants as Judged
 use Rattle.index_node.specs.declared.Node.TheVariants.{Root}
 use Rattle.index_node.specs.declared.Viewed.{Viewed}
-use Rattle.index_node.specs.declared.Viewed.TheVariants as Viewed
 use Rattle.index_node.specs.Memory.{Memory}
 use Rattle.index_node.specs.Node.{view_of}
 use Rattle.index.specs.declared.Level.{Level}
@@ -20,7 +19,6 @@ use Rattle.index.specs.declared.Kept.TheVariants.{Nothing, Given}
 use Rattle.index.specs.declared.Cursor.{Cursor}
 use Rattle.index.specs.declared.Stepped.{Stepped}
 use Rattle.index.specs.declared.Answer.{Answer}
-use Rattle.index.specs.declared.Answer.TheVariants as Answer
 use Rattle.index.specs.Walk.{levels}
 use Rattle.index.specs.Listing.{Listing, done, stop, item, and_then, list, list_root, listing}
 use Rattle.index.specs.Step.{blank, frames, fill, cursor_of, new_cursor, left_below, Outcome, yields, ends, refuses, settle}

@@ -11,7 +11,6 @@ use lib.ListN.{get_or}
 use Rattle.logic.proofs.Cases.{it, look}
 use Rattle.refusal.specs.declared.Refusal.{Refusal}
 use Rattle.index_root.specs.declared.Judged.{Judged}
-use Rattle.index_root.specs.declared.Judged.TheVariants as Judged
 use Rattle.index_node.specs.declared.Node.TheVariants.{Root}
 use Rattle.index_node.specs.Memory.{Memory}
 use Rattle.index_node.specs.Node.{view_of}

@@ -9,7 +9,6 @@ use Rattle.index_entry.specs.Entry.{is_last, entry_at, key_of, subnode_of}
 use Rattle.index_node.specs.declared.Node.{Node}
 use Rattle.index_node.specs.declared.View.{View}
 use Rattle.index_node.specs.declared.Viewed.{Viewed}
-use Rattle.index_node.specs.declared.Viewed.TheVariants as Viewed
 use Rattle.index_node.specs.declared.Place.{Place}
 use Rattle.index_node.specs.Memory.{Memory, view_bytes}
 use Rattle.index_node.specs.Node.{view_of}

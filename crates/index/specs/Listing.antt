@@ -5,7 +5,6 @@ use Rattle.refusal.specs.declared.Refusal.TheVariants.{TooManyLevels}
 use Rattle.refusal.specs.Part.{Part, absent, refused, present}
 use Rattle.index_node.specs.declared.Node.TheVariants.{Root}
 use Rattle.index_node.specs.declared.Viewed.{Viewed}
-use Rattle.index_node.specs.declared.Viewed.TheVariants as Viewed
 use Rattle.index_node.specs.Memory.{Memory}
 use Rattle.index_node.specs.Node.{view_of}
 use Rattle.index.specs.Entries.{Entry, Entries, over, broken, last, next, entries_at}

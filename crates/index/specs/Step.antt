@@ -4,11 +4,9 @@ use Rattle.refusal.specs.declared.Refusal.{Refusal}
 use Rattle.refusal.specs.declared.Refusal.TheVariants.{EntrySize, TooManyLevels}
 use Rattle.refusal.specs.Part.{Part, absent, refused, present}
 use Rattle.index_root.specs.declared.Judged.{Judged}
-use Rattle.index_root.specs.declared.Judged.TheVariants as Judged
 use Rattle.index_node.specs.declared.Node.{Node}
 use Rattle.index_node.specs.declared.Node.TheVariants.{Root, Record}
 use Rattle.index_node.specs.declared.Viewed.{Viewed}
-use Rattle.index_node.specs.declared.Viewed.TheVariants as Viewed
 use Rattle.index_node.specs.declared.Place.{Place}
 use Rattle.index_node.specs.Memory.{Memory}
 use Rattle.index_node.specs.Node.{view_of}
@@ -19,7 +17,6 @@ use Rattle.index.specs.declared.Kept.{Kept}
 use Rattle.index.specs.declared.Kept.TheVariants.{Nothing, Given}
 use Rattle.index.specs.declared.Cursor.{Cursor}
 use Rattle.index.specs.declared.Answer.{Answer}
-use Rattle.index.specs.declared.Answer.TheVariants as Answer
 use Rattle.index.specs.declared.Stepped.{Stepped}
 use Rattle.index.specs.Entries.{Entry, Look, past, bad, met, end_of, look_at, met_at}
 use Rattle.index.specs.Walk.{levels, dir_of, Opened, declined, opened, opening, unseen}

@@ -3,12 +3,10 @@ use Rattle.std.specs.Prelude.{ℕ, ◌≤◌, ◌≡◌, Bool, true, false, ℤ}
 use Rattle.refusal.specs.declared.Refusal.TheVariants.{EntrySize}
 use Rattle.refusal.specs.Part.{Part, absent, refused, present}
 use Rattle.index_entry.specs.declared.Subnode.{Subnode}
-use Rattle.index_entry.specs.declared.Subnode.TheVariants as Subnode
 use Rattle.index_entry.specs.Entry.{subnode_says}
 use Rattle.index_node.specs.declared.Node.{Node}
 use Rattle.index_node.specs.declared.Node.TheVariants.{Record}
 use Rattle.index_node.specs.declared.Viewed.{Viewed}
-use Rattle.index_node.specs.declared.Viewed.TheVariants as Viewed
 use Rattle.index_node.specs.declared.Place.{Place}
 use Rattle.index_node.specs.Memory.{Memory}
 use Rattle.index_node.specs.Node.{view_of}
@@ -19,9 +17,7 @@ use Rattle.index.specs.declared.Kept.TheVariants.{Nothing}
 use Rattle.index.specs.declared.Cursor.{Cursor}
 use Rattle.index.specs.declared.Met.{Met}
 use Rattle.index.specs.declared.Read.{Read}
-use Rattle.index.specs.declared.Read.TheVariants as Read
 use Rattle.index.specs.declared.Standing.{Standing}
-use Rattle.index.specs.declared.Standing.TheVariants as Standing
 use Rattle.index.specs.declared.Move.{Move}
 use Rattle.index.specs.declared.Move.TheVariants.{Pop, Yield, Down, Stop}
 use Rattle.index.specs.Entries.{Entry, Look, past, bad, met, end_of, look_at, met_at}

@@ -3,10 +3,8 @@ use Rattle.std.specs.Prelude.{ℕ, zero, suc, Bool, true, false, leb, eqb, ℤ, 
 use Rattle.refusal.specs.declared.Refusal.{Refusal}
 use Rattle.refusal.specs.declared.Refusal.TheVariants.{SubnodeWithoutPool, TooManyLevels, AllowanceSpent, ReachedTwice}
 use Rattle.index_allocation.specs.declared.Lies.{Lies}
-use Rattle.index_allocation.specs.declared.Lies.TheVariants as Lies
 use Rattle.index_node.specs.declared.Node.TheVariants.{Record}
 use Rattle.index_node.specs.declared.Viewed.{Viewed}
-use Rattle.index_node.specs.declared.Viewed.TheVariants as Viewed
 use Rattle.index_node.specs.Memory.{Memory, placed}
 use Rattle.index_node.specs.Node.{view_of}
 use Rattle.index.specs.Entries.{Entries, entries_at}

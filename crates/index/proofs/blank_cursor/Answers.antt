@@ -1,6 +1,5 @@
 -- `blank_cursor`: eight blank levels are the empty list of levels, filled in.
 -- Both sides compute to the same.
-use borrow.Author.Rules.{rules}
 use Rattle.index.specs.Step.{fill}
 use Rattle.index.proofs.blank_cursor.Goals as goal
 

@@ -1,6 +1,5 @@
 -- `check_step`: the root, the number of levels, then each level.
 -- Each arm puts what was told into the definition.
-use borrow.Author.Rules.{rules}
 use borrow.Author.Tests.{lt-ltb, le-ltb}
 use Rattle.index.specs.Step.{checks}
 use Rattle.index.proofs.check_step.Goals as goal

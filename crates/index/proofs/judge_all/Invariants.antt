@@ -1,13 +1,10 @@
 -- `judge_all`: the levels are judged from the root down, and the first refusal is the answer.
 -- The invariant: the first i levels are fine.
-use mathlib.Core.Path.{◌≡◌, refl, sym, ◌∙◌}
-use native.Mathlib.Omega.{arith}
-use borrow.Author.Rules.{rules}
+use mathlib.Core.Path.{◌≡◌}
 use Rattle.index_node.specs.Memory.{memory}
 use Prim.Native.Nat.{◌≤◌, ◌-◌}
 use Rattle.index_root.specs.declared.Judged.TheVariants.{Fine}
 use Rattle.index.specs.Step.{frames, judge_all}
-use Rattle.index.proofs.Arrays.{judge_next_lem, judge_stops}
 use Rattle.index.proofs.judge_all.Given as goal
 
 abbrev pub invariant-loop-i : goal.invariant-loop-i

@@ -3,8 +3,7 @@
 use Rattle.index_node.specs.Memory.{memory}
 use Rattle.index.specs.Entries.{met_at}
 use mathlib.Core.Path.{sym, ◌∙◌}
-use Rattle.index.proofs.Reading.{judged_refused, judged_fine}
-use borrow.Author.Rules.{rules}
+use Rattle.index.proofs.Reading.{judged_refused}
 use Rattle.index.proofs.judge_level.Goals as goal
 
 pub returns-in-Refused : goal.returns-in-Refused

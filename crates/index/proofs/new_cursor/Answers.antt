@@ -1,6 +1,5 @@
 -- `new_cursor`: the root's level is blank too, so that eight blanks are the list of one.
 -- Both sides compute to the same.
-use borrow.Author.Rules.{rules}
 use Rattle.index.specs.Step.{fill}
 use Rattle.index.proofs.new_cursor.Goals as goal
 

@@ -5,7 +5,6 @@ use Rattle.index_node.specs.Memory.{memory}
 use mir.Syntax.{w64}
 use mir.Facts.{to_z-of_z}
 use Rattle.index.proofs.Reading.{open_empty, open_deep, open_spent, open_node}
-use borrow.Author.Rules.{rules}
 use Rattle.index.proofs.open_record.Goals as goal
 
 pub returns-then-pool-eq0 : goal.returns-then-pool-eq0

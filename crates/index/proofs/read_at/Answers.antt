@@ -1,7 +1,6 @@
 -- `read_at`: the node under its refusals, and then `read_entry` in its bytes.
 -- Each arm puts what was told into the definition.
 use Rattle.index.specs.Entries.{look_at}
-use borrow.Author.Rules.{rules}
 use Rattle.index.proofs.read_at.Goals as goal
 
 pub returns-in-Refused : goal.returns-in-Refused

@@ -1,17 +1,12 @@
 -- `settle_all`: moves until the step has its answer.
 -- The invariant: the outcome from here is the outcome from the start. The measure: what is left to do, `weight`.
 -- the move that was told, in the arm v
-use mathlib.Core.Path.{◌≡◌, refl, ◌∙◌}
-use native.Mathlib.Omega.{arith}
-use borrow.Author.Rules.{rules}
-use borrow.Author.Tests.{leb-false}
+use mathlib.Core.Path.{◌≡◌}
 use Rattle.index_node.specs.Memory.{memory}
-use Rattle.index.specs.declared.Move.{Move}
 use Rattle.index.specs.Walk.{allow}
 use Rattle.index.specs.Step.{frames, settle}
 use Rattle.index.specs.Turn.{Tidy}
 use Rattle.index.proofs.Moves.{weight}
-use Rattle.index.proofs.Steps.{turn_end, Turn, turns}
 use Rattle.index.proofs.settle_all.Given as goal
 
 abbrev pub invariant-loop-cursor : goal.invariant-loop-cursor

@@ -4,7 +4,6 @@ use Rattle.index_entry.specs.Entry.{entry_at}
 use Rattle.index_node.specs.Memory.{view_bytes}
 use Rattle.index.proofs.Reading.{stands_as}
 use Rattle.index.specs.Entries.{met_in, met_at}
-use borrow.Author.Rules.{rules}
 use Rattle.index.proofs.standing_at.Goals as goal
 
 pub returns-in-Refused : goal.returns-in-Refused

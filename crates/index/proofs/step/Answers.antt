@@ -1,6 +1,5 @@
 -- `step`: a kept refusal, no level, a refused check, or the walk.
 -- One law for each arm.
-use borrow.Author.Rules.{rules}
 use mathlib.Core.Path.{sym, ◌∙◌}
 use Rattle.index_node.specs.Memory.{memory}
 use Rattle.index_root.specs.declared.Judged.TheVariants as Judged

@@ -1,10 +1,7 @@
 -- `tidy_up`: the levels are copied into blanks, from the root down.
 -- The invariant: the first i of them are there.
-use mathlib.Core.Path.{◌≡◌}
 use native.Mathlib.Omega.{arith}
-use borrow.Author.Rules.{rules}
-use Prim.Native.Nat.{◌≤◌, ◌-◌}
-use Rattle.index.proofs.Arrays.{half, half_next, half_whole}
+use Rattle.index.proofs.Arrays.{half_next, half_whole}
 use Rattle.index.specs.Step.{frames}
 use Rattle.index.proofs.tidy_up.Goals as goal
 

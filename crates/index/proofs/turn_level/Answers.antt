@@ -1,7 +1,6 @@
 -- `turn_level`: one move, by the stage of the level.
 -- Each arm puts what was told into the definition.
 use Rattle.index.specs.Turn.{level_m}
-use borrow.Author.Rules.{rules}
 use Rattle.index.proofs.turn_level.Goals as goal
 
 pub returns-in-Fresh : goal.returns-in-Fresh

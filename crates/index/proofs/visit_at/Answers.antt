@@ -1,10 +1,6 @@
 -- `visit_at`: by what the node holds at the position.
 -- Each arm puts what was told into the definition.
-use Rattle.index_node.specs.Memory.{memory}
-use Rattle.index.specs.Entries.{look_at}
 use Rattle.index.specs.Turn.{visit_m}
-use Rattle.index.proofs.Reading.{next_is}
-use borrow.Author.Rules.{rules}
 use Rattle.index.proofs.visit_at.Goals as goal
 
 pub returns-in-Over : goal.returns-in-Over
