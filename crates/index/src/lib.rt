@@ -114,6 +114,7 @@ fn read_entry(bytes: &[u8], view: View, at: usize) -> Read
     }
 }
 
+#[tactic(auto, unfolding(crate::specs::Entries::look_at))]
 fn read_at<'a>(root: &'a [u8], pool: &'a [u8], cluster: usize, node: Node, at: usize) -> Read
     ensures { result ≡ read_says (look_at (memory root.now pool.now cluster) node at) }
 {
@@ -124,6 +125,7 @@ fn read_at<'a>(root: &'a [u8], pool: &'a [u8], cluster: usize, node: Node, at: u
 }
 
 // An entry put off, to the end of its node's bytes.
+#[tactic(auto, using(crate::proofs::Reading::stands_as), unfolding(crate::specs::Entries::met_at, crate::specs::Entries::met_in))]
 fn standing_at<'a>(
     root: &'a [u8],
     pool: &'a [u8],
@@ -194,6 +196,7 @@ fn judge_all<'a>(root: &'a [u8], pool: &'a [u8], cluster: usize, c: Cursor) -> J
 }
 
 // 1 to 7, 11, then each level.
+#[tactic(auto, unfolding(crate::specs::Step::checks))]
 fn check_step<'a>(root: &'a [u8], pool: &'a [u8], cluster: usize, c: Cursor) -> Judged
     ensures { result ≡ checks (memory root.now pool.now cluster) c.depth (frames c.levels c.depth) }
 {
@@ -253,6 +256,7 @@ fn going_on(node: Node, next: usize) -> Level
 }
 
 // No level, and blank past it.
+#[tactic(auto, unfolding(crate::specs::Step::fill))]
 fn blank_cursor(opened: u64, refusal: Kept) -> Cursor
     ensures { result ≡ cursor_of [] opened refusal }
 {
@@ -367,6 +371,7 @@ fn enter_entry<'a>(
     }
 }
 
+#[tactic(auto, unfolding(crate::specs::Turn::visit_m))]
 fn visit_at<'a>(
     root: &'a [u8],
     pool: &'a [u8],
@@ -424,6 +429,7 @@ fn yield_due<'a>(
 }
 
 // One move of the deepest level.
+#[tactic(auto, unfolding(crate::specs::Turn::level_m))]
 fn turn_level<'a>(
     root: &'a [u8],
     pool: &'a [u8],
@@ -488,6 +494,7 @@ fn settle_all<'a>(
 }
 
 // A listing that has not begun.
+#[tactic(auto, unfolding(crate::specs::Step::fill))]
 pub fn new_cursor() -> Cursor
     ensures { result ≡ new_cursor }
 {
