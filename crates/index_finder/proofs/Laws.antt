@@ -16,7 +16,6 @@ use Rattle.index_entry.specs.Entry.{subnode_says}
 use Rattle.index_node.specs.declared.Node.TheVariants.{Root, Record}
 use Rattle.index_node.specs.declared.View.{View}
 use Rattle.index_node.specs.declared.Viewed.{Viewed}
-use Rattle.index_node.specs.declared.Viewed.TheVariants as Viewed
 use Rattle.index_node.specs.Memory.{Memory, view_bytes}
 use Rattle.index_node.specs.Node.{view_of}
 use Rattle.index_node.proofs.Laws as nodes
@@ -25,9 +24,7 @@ use Rattle.index.specs.Walk.{dir_of, opening, unseen, opened_node, allow}
 use Rattle.index.proofs.Chains.{sees, unroll}
 use Rattle.index.proofs.Reading.{shown_node, shown_refusal}
 use Rattle.index_finder.specs.declared.Finding.{Finding}
-use Rattle.index_finder.specs.declared.Finding.TheVariants as Finding
 use Rattle.index_finder.specs.declared.Visit.{Visit}
-use Rattle.index_finder.specs.declared.Visit.TheVariants as Visit
 use Rattle.index_finder.specs.Kind.{Kind, key_read}
 use Rattle.index_finder.specs.Find.{find_ordered, find_sub, find_key, find_in, find, finding}
 use Rattle.index_finder.specs.Visit.{against_of, below, visit_ordered, visit_key, visit_of}

@@ -6,7 +6,6 @@ use Rattle.refusal.specs.Part.{Part, absent, refused, present}
 use Rattle.ordering.specs.declared.Ordering.{Ordering}
 use Rattle.upcase_table.specs.Names.{units_of, name_order}
 use Rattle.file_name.specs.declared.FileName.{FileName}
-use Rattle.file_name.specs.declared.FileName.TheVariants as FileName
 use Rattle.file_name.specs.Name.{file_name_of, name_of}
 
 pub record Kind (K : Type 0) : Type 0 where

@@ -3,13 +3,10 @@ use Rattle.refusal.specs.Part.{Part, absent, refused, present}
 use Rattle.ordering.specs.declared.Ordering.{Ordering}
 use Rattle.ordering.specs.declared.Ordering.TheVariants.{Less, Equal, Greater}
 use Rattle.index_entry.specs.declared.Subnode.{Subnode}
-use Rattle.index_entry.specs.declared.Subnode.TheVariants as Subnode
 use Rattle.index_entry.specs.Entry.{subnode_says}
 use Rattle.index.specs.Entries.{Entry, Look, past, bad, met, end_of}
 use Rattle.index_finder.specs.declared.Against.{Against}
-use Rattle.index_finder.specs.declared.Against.TheVariants as Against
 use Rattle.index_finder.specs.declared.Visit.{Visit}
-use Rattle.index_finder.specs.declared.Visit.TheVariants as Visit
 use Rattle.index_finder.specs.Kind.{Kind, key_read}
 
 abbrev pub against_of : {K : Type 0} → Kind K → K → Part K → Against

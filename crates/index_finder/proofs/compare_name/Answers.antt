@@ -4,7 +4,6 @@ use Rattle.upcase_table.specs.Names.{units_of}
 use Rattle.file_name.specs.Name.{name_of}
 use Rattle.index_finder.proofs.Told.{order_told, order_given}
 use mathlib.Core.Path.{sym, ◌∙◌}
-use borrow.Author.Rules.{rules}
 use Rattle.index_finder.proofs.compare_name.Goals as goal
 
 pub returns-in-Ordered : goal.returns-in-Ordered

@@ -1,16 +1,11 @@
 -- `descend`: in each loop what remains of the walk is the whole answer; the levels left fall, and within a node the start rises.
 -- Each arm cites the law of what the entry said.
 use Prim.Native.Nat.{◌-◌}
-use mathlib.Core.Path.{◌≡◌, refl, sym, ◌∙◌}
-use mir.Syntax.{w64}
-use mir.Facts.{to_z-of_z}
-use native.Mathlib.Omega.{arith}
-use borrow.Author.Rules.{rules}
+use mathlib.Core.Path.{◌≡◌}
 use Rattle.index_node.specs.Memory.{memory, view_bytes}
 use Rattle.index.specs.Walk.{allow}
-use Rattle.index_finder.specs.declared.Visit.TheVariants as Visit
 use Rattle.index_finder.specs.Kind.{file_names}
-use Rattle.index_finder.proofs.Laws.{Scanning, starts, turned, onward, further, stuck, enters, room}
+use Rattle.index_finder.proofs.Laws.{Scanning}
 use Rattle.index_finder.proofs.descend.Given as goal
 
 abbrev pub invariant-loop-place : goal.invariant-loop-place

@@ -1,9 +1,7 @@
 -- `find`: 19, 20, 1 to 7, each told by its test; then the walk.
 -- Each return puts the tests into the definition.
-use mathlib.Core.Path.{sym, ◌∙◌}
 use borrow.Author.Tests.{eq-eqb, ne_eqb, lt-ltb, le-ltb}
 use Rattle.index_finder.specs.Find.{lookup, finding}
-use borrow.Author.Rules.{rules}
 use Rattle.index_finder.proofs.find.Goals as goal
 
 pub returns-then-name-gt-LONGEST_NAME : goal.returns-then-name-gt-LONGEST_NAME
