@@ -54,6 +54,7 @@ enum Visit {
 }
 
 // A key is read, 18 otherwise, before it is compared.
+#[tactic(auto, using(crate::proofs::Told::order_told, crate::proofs::Told::order_given))]
 fn compare_name(table: &[u16], name: &[u16], key: &[u8]) -> Against
     requires { length table.now ≡ table_units }
     ensures { result ≡ against_of (file_names table.now) name.now (key_read (file_names table.now) (present key.now)) }
@@ -164,6 +165,7 @@ fn descend<'a>(
 }
 
 // Lookup of a file name: 19, 20, 1 to 7, then its walk.
+#[tactic(auto, unfolding(crate::specs::Find::lookup, crate::specs::Find::finding))]
 pub fn find<'a>(
     root: &'a [u8],
     pool: &'a [u8],
