@@ -83,5 +83,6 @@ mark_keeps (r ∷ rs) m i b h = mark_keeps rs (set m r 1) i (rw length-set b) (e
 
 pub mark_same : (rs m : List ℕ) (i : ℕ) → i < length m → Memᴰ i rs → get_or (mark rs m) i 0 ≡ 1
 unfolding mark
+mark_same [] m i b x'' = elim x'' [ ]
 mark_same (r ∷ rs) m i b (mathlib.Core.List.Memᴰ.head e) = mark_keeps rs (set m r 1) i (rw length-set b) (rw (← e) (get_or-set_same m i 1 0 b))
 mark_same (r ∷ rs) m i b (mathlib.Core.List.Memᴰ.tail j) = mark_same rs (set m r 1) i (rw length-set b) j

@@ -159,6 +159,7 @@ module _ (d : Dir) {K : Type 0} (kind : Kind K) where
   -- found exactly if listed
   keys_mem : (es : List Entry) (e : Entry) (k : K) → Memᴰ e es → key_read kind e.key ≡ present k → Memᴰ k (keys_of kind es)
   unfolding keys_of
+  keys_mem [] e k x'' h = elim x'' [ ]
   keys_mem (f ∷ es) e k (Memᴰ.head q) h = rw (← q, h) (Memᴰ.head refl)
   keys_mem (f ∷ es) e k (Memᴰ.tail i) h = elim (look (key_read kind f.key)) [
     | it absent p ↦ rw p (keys_mem es e k i h)

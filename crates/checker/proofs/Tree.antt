@@ -100,6 +100,7 @@ module _ (d : Dir) {K : Type 0} (kind : Kind K) where
   below : {l r s : ℕ} {n m : Entries} {e : Entry} (t : Tree d kind l n) → Closed t → Has n e → Leads d e.sub r s m
       → (k : ℕ) × (l ≡ suc k) × Closing k m
   unfolding Closed
+  below {r = r} {s = s} {m = m} {e = e} (out {l = l}) z _ q = elim z [ ]
   below (end h) z at_last q = absurd (clash d h q)
   below (down {l = l} h t) (z, z') at_last q = (l, refl, subst (λ x. Closing l x) (same d h q) (t, z'))
   below (leaf c h t) z at_next q = absurd (clash d h q)
