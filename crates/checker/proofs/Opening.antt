@@ -15,13 +15,11 @@ use Rattle.index_allocation.specs.declared.Lies.TheVariants as Lies
 use Rattle.index_node.specs.declared.Node.TheVariants.{Record}
 use Rattle.index_node.specs.declared.View.{View}
 use Rattle.index_node.specs.declared.Viewed.{Viewed}
-use Rattle.index_node.specs.declared.Viewed.TheVariants as Viewed
 use Rattle.index_node.specs.Memory.{Memory, placed}
 use Rattle.index_node.specs.Node.{view_of}
 use Rattle.index.specs.Entries.{entries_at}
 use Rattle.index.specs.Walk.{dir_of, Opened, declined, opened, opening}
 use Rattle.checker.specs.declared.Fresh.{Fresh}
-use Rattle.checker.specs.declared.Fresh.TheVariants as Fresh
 use Rattle.checker.specs.Turn.{fresh_node, fresh_says}
 
 module _ (m : Memory) (left : ℕ) (seen : ℕ → Bool) (vcn : ℤ) where

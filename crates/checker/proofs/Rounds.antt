@@ -16,9 +16,7 @@ use Rattle.checker.specs.declared.Walk.{Walk}
 use Rattle.checker.specs.declared.Outcome.{Outcome}
 use Rattle.checker.specs.declared.Sound.{Sound}
 use Rattle.checker.specs.declared.Closed.{Closed}
-use Rattle.checker.specs.declared.Closed.TheVariants as Closed
 use Rattle.checker.specs.declared.Visit.{Visit}
-use Rattle.checker.specs.declared.Visit.TheVariants as Visit
 use Rattle.checker.specs.Check.{Checked, check, records_of}
 use Rattle.checker.specs.Turn.{judge_of, state_of, checked_says, count_of, walk_of, closes_fork, visit_of, ones, Inside}
 use Rattle.checker.proofs.Counting.{Markable, markable, inside_length, drop_set}

@@ -16,10 +16,8 @@ use Rattle.ordering.specs.declared.Ordering.{Ordering}
 use Rattle.ordering.specs.declared.Ordering.TheVariants.{Less, Equal, Greater}
 use Rattle.upcase_table.specs.Names.{units_of}
 use Rattle.file_name.specs.declared.FileName.{FileName}
-use Rattle.file_name.specs.declared.FileName.TheVariants as FileName
 use Rattle.file_name.specs.Name.{file_name_of, name_of}
 use Rattle.index_root.specs.declared.Judged.{Judged}
-use Rattle.index_root.specs.declared.Judged.TheVariants as Judged
 use Rattle.index_entry.specs.Entry.{key_of, subnode_says}
 use Rattle.index_allocation.specs.declared.Lies.TheVariants as Lies
 use Rattle.index_node.specs.declared.Node.TheVariants.{Root, Record}
@@ -28,22 +26,18 @@ use Rattle.index_node.specs.declared.Viewed.TheVariants as Viewed
 use Rattle.index_node.specs.Memory.{Memory, placed, view_bytes}
 use Rattle.index_node.specs.Node.{view_of}
 use Rattle.index_node.proofs.Laws as nodes
-use Rattle.index.specs.Entries.{Entry, Look, past, bad, met, look_in, look_at, Entries, last, next, end_of, rolled, roll, bound, entries_at}
-use Rattle.index.specs.Walk.{levels, dir_of, opened, opening}
+use Rattle.index.specs.Entries.{Entry, Look, past, bad, met, look_in, look_at, Entries, end_of, rolled, roll, bound, entries_at}
+use Rattle.index.specs.Walk.{levels, dir_of, opening}
 use Rattle.index.proofs.Chains.{sees, unroll}
 use Rattle.index_finder.specs.Kind.{key_read, file_names}
 use Rattle.checker.specs.declared.Before.TheVariants as Before
 use Rattle.checker.specs.declared.Walk.{Walk}
 use Rattle.checker.specs.declared.Outcome.{Outcome}
-use Rattle.checker.specs.declared.Outcome.TheVariants as Outcome
 use Rattle.checker.specs.declared.Sound.{Sound}
 use Rattle.checker.specs.declared.Judgement.{Judgement}
-use Rattle.checker.specs.declared.Judgement.TheVariants as Judgement
 use Rattle.checker.specs.declared.Fresh.{Fresh}
-use Rattle.checker.specs.declared.Fresh.TheVariants as Fresh
 use Rattle.checker.specs.declared.Checking.TheVariants as Checking
 use Rattle.checker.specs.declared.Closed.{Closed}
-use Rattle.checker.specs.declared.Closed.TheVariants as Closed
 use Rattle.checker.specs.declared.Visit.TheVariants as Visit
 use Rattle.checker.specs.Check.{State, Checked, fault, fine, onward, marked, enters, falls, listed, check_opened, check_sub, check_last, check_key}
 use Rattle.checker.specs.Check.{check_next, check_in, check, result, walked}

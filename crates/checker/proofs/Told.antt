@@ -15,7 +15,6 @@ use Rattle.refusal.specs.Part.{Part, absent, refused, present, bytes_of}
 use Rattle.ordering.specs.declared.Ordering.TheVariants.{Less, Equal}
 use Rattle.ordering.specs.Order.{order}
 use Rattle.index_root.specs.declared.Judged.{Judged}
-use Rattle.index_root.specs.declared.Judged.TheVariants as Judged
 use Rattle.index_entry.specs.declared.KeyPart.TheVariants as KeyPart
 use Rattle.index_entry.specs.Entry.{is_last, entry_at, key_of, subnode_of, key_says, subnode_says}
 use Rattle.index_node.specs.declared.Place.{Place}
@@ -25,7 +24,6 @@ use Rattle.index_node.specs.Node.{next_in}
 use Rattle.index.specs.Entries.{Entry, entry_of, met_in, Look, met, look_in}
 use Rattle.index.proofs.Reading.{look_entry, read_within, own, seen}
 use Rattle.checker.specs.declared.Judgement.{Judgement}
-use Rattle.checker.specs.declared.Judgement.TheVariants as Judgement
 use Rattle.checker.specs.Turn.{key_sound, with_sub, sound_of, keyed, judge_met, judge_of}
 
 pub key_missing : (k : Part (List ℕ)) → key_says k ≡ KeyPart.Absent → Judged.Refused KeyMissing ≡ key_sound k

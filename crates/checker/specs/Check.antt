@@ -10,7 +10,6 @@ use Rattle.upcase_table.specs.Names.{table_units}
 use Rattle.index_root.specs.Root.{record_size_of}
 use Rattle.index_node.specs.declared.Node.TheVariants.{Root}
 use Rattle.index_node.specs.declared.Viewed.{Viewed}
-use Rattle.index_node.specs.declared.Viewed.TheVariants as Viewed
 use Rattle.index_node.specs.Memory.{Memory}
 use Rattle.index_node.specs.Node.{view_of}
 use Rattle.index.specs.Entries.{Entries, over, broken, last, next, entries_at}

@@ -4,7 +4,6 @@ use mathlib.Core.List.{List, [], Memᴰ}
 use Rattle.index_node.specs.declared.Node.TheVariants.{Root}
 use Rattle.index_node.specs.declared.View.{View}
 use Rattle.index_node.specs.declared.Viewed.{Viewed}
-use Rattle.index_node.specs.declared.Viewed.TheVariants as Viewed
 use Rattle.index_node.specs.Memory.{Memory}
 use Rattle.index_node.specs.Node.{view_of}
 use Rattle.index.specs.Entries.{Entry, Entries, entries_at}

@@ -7,18 +7,14 @@ use Rattle.ordering.specs.declared.Ordering.{Ordering}
 use Rattle.ordering.specs.declared.Ordering.TheVariants.{Less, Equal, Greater}
 use Rattle.upcase_table.specs.Names.{units_of}
 use Rattle.file_name.specs.declared.FileName.{FileName}
-use Rattle.file_name.specs.declared.FileName.TheVariants as FileName
 use Rattle.file_name.specs.Name.{file_name_of, name_of}
 use Rattle.index_root.specs.declared.Judged.{Judged}
-use Rattle.index_root.specs.declared.Judged.TheVariants as Judged
 use Rattle.index_entry.specs.declared.Subnode.{Subnode}
-use Rattle.index_entry.specs.declared.Subnode.TheVariants as Subnode
 use Rattle.index_entry.specs.Entry.{entry_at, key_of, subnode_says}
 use Rattle.index_allocation.specs.declared.Lies.TheVariants as Lies
 use Rattle.index_node.specs.declared.Node.TheVariants.{Record}
 use Rattle.index_node.specs.declared.View.{View}
 use Rattle.index_node.specs.declared.Viewed.{Viewed}
-use Rattle.index_node.specs.declared.Viewed.TheVariants as Viewed
 use Rattle.index_node.specs.Memory.{Memory, placed, view_bytes}
 use Rattle.index_node.specs.Node.{view_of}
 use Rattle.index.specs.Entries.{Entry, Look, past, bad, met, end_of}
@@ -26,19 +22,13 @@ use Rattle.index.specs.Walk.{dir_of, Opened, declined, opened, opening}
 use Rattle.index_finder.specs.Kind.{file_names}
 use Rattle.checker.specs.declared.Spot.{Spot}
 use Rattle.checker.specs.declared.Before.{Before}
-use Rattle.checker.specs.declared.Before.TheVariants as Before
 use Rattle.checker.specs.declared.Walk.{Walk}
 use Rattle.checker.specs.declared.Outcome.{Outcome}
-use Rattle.checker.specs.declared.Outcome.TheVariants as Outcome
 use Rattle.checker.specs.declared.Sound.{Sound}
 use Rattle.checker.specs.declared.Judgement.{Judgement}
-use Rattle.checker.specs.declared.Judgement.TheVariants as Judgement
 use Rattle.checker.specs.declared.Fresh.{Fresh}
-use Rattle.checker.specs.declared.Fresh.TheVariants as Fresh
 use Rattle.checker.specs.declared.Closed.{Closed}
-use Rattle.checker.specs.declared.Closed.TheVariants as Closed
 use Rattle.checker.specs.declared.Visit.{Visit}
-use Rattle.checker.specs.declared.Visit.TheVariants as Visit
 use Rattle.checker.specs.Check.{State, Checked, fault, fine, marked, falls, records_of}
 
 -- no key: 24; key: 9, 18

@@ -3,7 +3,6 @@
 use mathlib.Core.Path.{sym, ◌∙◌}
 use Rattle.index_finder.proofs.Told.{order_told, order_given}
 use Rattle.checker.specs.Turn.{name_at}
-use borrow.Author.Rules.{rules}
 use Rattle.checker.proofs.name_falls.Goals as goal
 
 pub returns-in-Refused : goal.returns-in-Refused

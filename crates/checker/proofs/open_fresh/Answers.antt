@@ -6,7 +6,6 @@ use mir.Facts.{to_z-of_z}
 use Rattle.index_node.specs.Memory.{memory}
 use Rattle.checker.specs.Check.{marked}
 use Rattle.checker.proofs.Opening.{fresh_empty, fresh_deep, fresh_nowhere, fresh_twice, fresh_node_lem}
-use borrow.Author.Rules.{rules}
 use Rattle.checker.proofs.open_fresh.Goals as goal
 
 pub returns-then-pool-eq0 : goal.returns-then-pool-eq0

@@ -3,7 +3,6 @@
 use borrow.Author.Tests.{eq-eqb, ne_eqb}
 use native.Mathlib.Nat.{div-zero}
 use Rattle.checker.specs.Check.{records_of}
-use borrow.Author.Rules.{rules}
 use Rattle.checker.proofs.record_count.Goals as goal
 
 pub returns-then-pool-eq0 : goal.returns-then-pool-eq0
