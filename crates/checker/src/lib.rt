@@ -213,6 +213,7 @@ fn name_at<'a>(root: &'a [u8], pool: &'a [u8], spot: Spot) -> &'a [u8]
 }
 
 // 25: less than the name listed before it.
+#[tactic(auto, using(index_finder::proofs::Told::order_told, index_finder::proofs::Told::order_given))]
 fn name_falls<'a>(root: &'a [u8], pool: &'a [u8], table: &[u16], before: Before, spot: Spot) -> bool
     requires { length table.now ≡ table_units }
     ensures { result ≡ falls (file_names table.now) (before_of root.now pool.now before) (name_at root.now pool.now spot) }
@@ -374,6 +375,7 @@ fn check_node<'a>(
 }
 
 // How many records the pool has.
+#[tactic(auto, unfolding(crate::specs::Check::records_of))]
 fn record_count<'a>(root: &'a [u8], pool: &'a [u8], cluster: usize) -> usize
     ensures { result ≡ records_of (memory root.now pool.now cluster) }
 {
@@ -440,6 +442,7 @@ fn check_walk<'a>(
 }
 
 // Checks a directory of file names: 19, 1 to 7, 21, then its walk.
+#[tactic(auto, unfolding(crate::specs::Check::checker, crate::specs::Check::checking))]
 pub fn check<'a>(
     root: &'a [u8],
     pool: &'a [u8],
