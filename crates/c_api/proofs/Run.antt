@@ -15,13 +15,11 @@ use Rattle.refusal.specs.declared.Refusal.{Refusal}
 use Rattle.index_allocation.specs.declared.Lies.TheVariants as Lies
 use Rattle.index_allocation.proofs.Laws.{lying}
 use Rattle.index_root.specs.declared.Judged.{Judged}
-use Rattle.index_root.specs.declared.Judged.TheVariants as Judged
 use Rattle.index_root.specs.Root.{record_size_of}
 use Rattle.index_node.specs.declared.Node.{Node}
 use Rattle.index_node.specs.declared.Node.TheVariants.{Root, Record}
 use Rattle.index_node.specs.declared.View.{View}
 use Rattle.index_node.specs.declared.Viewed.{Viewed}
-use Rattle.index_node.specs.declared.Viewed.TheVariants as Viewed
 use Rattle.index_node.specs.Memory.{Memory, placed}
 use Rattle.index_node.specs.Node.{view_of, record_view}
 use Rattle.index.specs.declared.Stage.{Stage}

@@ -36,11 +36,9 @@ use Rattle.file_reference.specs.Reference.{reference_of, record_number_of, seque
 use Rattle.index_entry.specs.Entry.{entry_at, key_of}
 use Rattle.index_entry.specs.Entry as Entry
 use Rattle.file_name.specs.declared.FileName.{FileName}
-use Rattle.file_name.specs.declared.FileName.TheVariants as FileName
 use Rattle.file_name.specs.Name.{file_name_of, name_of}
 use Rattle.file_name.specs.Name as Name
 use Rattle.index_allocation.specs.declared.Lies.{Lies}
-use Rattle.index_allocation.specs.declared.Lies.TheVariants as Lies
 use Rattle.index_root.specs.Root.{record_size_of}
 use Rattle.index_node.specs.declared.Node.{Node}
 use Rattle.index_node.specs.declared.Node.TheVariants.{Root, Record}
@@ -53,13 +51,10 @@ use Rattle.index.specs.declared.Kept.{Kept}
 use Rattle.index.specs.declared.Kept.TheVariants.{Nothing, Given}
 use Rattle.index.specs.declared.Cursor.{Cursor}
 use Rattle.index.specs.declared.Answer.{Answer}
-use Rattle.index.specs.declared.Answer.TheVariants as Answer
 use Rattle.index.specs.Walk.{levels}
 use Rattle.index.specs.Step.{level_of, blank, step_of}
 use Rattle.index_finder.specs.declared.Finding.{Finding}
-use Rattle.index_finder.specs.declared.Finding.TheVariants as Finding
 use Rattle.checker.specs.declared.Checking.{Checking}
-use Rattle.checker.specs.declared.Checking.TheVariants as Checking
 use Rattle.c_api.specs.declared.Span.{Span}
 
 -- where the bytes of an entry lie: in the root, 0, or in the pool, 1; from which byte of it; how many

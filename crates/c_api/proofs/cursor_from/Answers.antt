@@ -1,7 +1,6 @@
 -- `cursor_from`: three numbers and eight levels.
 -- Each part is the definition's, at its place.
 use Rattle.c_api.specs.Words.{cursor_from, levels_from}
-use borrow.Author.Rules.{rules}
 use Rattle.c_api.proofs.cursor_from.Goals as goal
 
 pub returns : goal.returns

@@ -1,7 +1,6 @@
 -- `cursor_words`: three numbers, then the levels one after another.
 -- The law `eight` takes the eight stores together.
 use Rattle.c_api.proofs.Laws.{eight}
-use borrow.Author.Rules.{rules}
 use Rattle.c_api.proofs.cursor_words.Goals as goal
 
 pub returns : goal.returns

@@ -3,7 +3,6 @@
 use mathlib.Core.Path.{sym, ap, ◌∙◌}
 use Rattle.c_api.specs.Words.{name_words}
 use Rattle.c_api.proofs.Laws.{entry_there, entry_refused}
-use borrow.Author.Rules.{rules}
 use Rattle.c_api.proofs.entry_name_words.Goals as goal
 
 pub returns-in-Entry : goal.returns-in-Entry

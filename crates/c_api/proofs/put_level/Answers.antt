@@ -1,7 +1,6 @@
 -- `put_level`: five stores, each of one number of the level.
 -- The law `puts` says that they are the level's words.
 use Rattle.c_api.proofs.Laws.{puts}
-use borrow.Author.Rules.{rules}
 use Rattle.c_api.proofs.put_level.Goals as goal
 
 pub returns : goal.returns

@@ -2,7 +2,6 @@
 -- One law where it lies, one where it does not.
 use native.Mathlib.Omega.{arith}
 use Rattle.c_api.proofs.Laws.{span_there, span_none}
-use borrow.Author.Rules.{rules}
 use Rattle.c_api.proofs.span_in.Goals as goal
 
 pub returns-then-len-size : goal.returns-then-len-size
