@@ -38,6 +38,7 @@ struct Span {
 }
 
 // Compared so that no sum can wrap.
+#[tactic(auto, using(crate::proofs::Laws::span_there, crate::proofs::Laws::span_none))]
 fn span_in(holder: u64, from: usize, len: usize, at: usize, size: usize) -> Span
     requires { from + len ≤ 18446744073709551615 }
     ensures { result ≡ span_in holder from len at size }
@@ -179,6 +180,7 @@ fn name_words(entry: &[u8]) -> [u64; 7]
     }
 }
 
+#[tactic(auto, using(crate::proofs::Laws::entry_there, crate::proofs::Laws::entry_refused))]
 fn entry_name_words(bytes: &[u8]) -> [u64; 7]
     ensures { result ≡ entry_name_words bytes.now }
 {
@@ -303,6 +305,7 @@ fn due_word(stage: Stage) -> u64
 }
 
 // A level's five numbers, from at on.
+#[tactic(auto, using(crate::proofs::Laws::puts))]
 fn put_level(w: &mut [u64; WORDS], at: usize, l: Level)
     requires { at + 5 ≤ 43 }
     ensures { w.new ≡ stored w.old at (level_words l) }
@@ -346,6 +349,7 @@ fn level_from(w: &[u64; WORDS], at: usize) -> Level
 }
 
 // Any numbers make a cursor.
+#[tactic(auto, unfolding(crate::specs::Words::cursor_from, crate::specs::Words::levels_from))]
 fn cursor_from(w: &[u64; WORDS]) -> Cursor
     ensures { result ≡ cursor_from w.now }
 {
