@@ -1,0 +1,15 @@
+-- `counted_byte`: the number's bytes, then the newline, then nothing.
+-- Each return cites the law of its side of the seam.
+use mathlib.Core.Path.{refl}
+use Rattle.capture_line.proofs.Laws.{in_number, after_number, behind_number}
+use borrow.Author.Rules.{rules}
+use Rattle.capture_line.proofs.counted_byte.Goals as goal
+
+pub returns-then-i-k : goal.returns-then-i-k
+returns-then-i-k c = in_number _ _ _ c.count_places-k.ensures.0 _ _ c.if-i-k.true c.decimal_byte.ensures
+
+pub returns-then-i-k-2 : goal.returns-then-i-k-2
+returns-then-i-k-2 c = after_number _ _ _ c.count_places-k.ensures.0 _ _ c.if-i-k-2.true
+
+pub returns : goal.returns
+returns c = behind_number _ _ _ c.count_places-k.ensures.0 _ _ _ c.if-i-k.false c.if-i-k-2.false refl
