@@ -7,7 +7,6 @@ use Rattle.file_reference.specs.Reference.{reference_of, record_number_of, seque
 use Rattle.index_entry.specs.Entry.{key_of}
 use Rattle.upcase_table.specs.Names.{units_of}
 use Rattle.file_name.specs.declared.FileName.{FileName}
-use Rattle.file_name.specs.declared.FileName.TheVariants as FileName
 use Rattle.file_name.specs.Name.{file_name_of, name_of}
 
 abbrev pub space : ℕ

@@ -1,10 +1,7 @@
 -- `count_places`: the loop has spent as much of the definition's fuel as it has counted; the invariant is `Counting`.
 -- Each turn cites `divided`; a rest below 10, or the fuel's end, ends the count.
-use Prim.Native.Nat.{◌-◌}
 use native.Mathlib.Omega.{arith}
-use borrow.Author.Rules.{rules}
-use Rattle.capture_line.specs.Text.{places}
-use Rattle.capture_line.proofs.Laws.{Counting, counting, counted, spent, divided}
+use Rattle.capture_line.proofs.Laws.{counted, spent, divided}
 use Rattle.capture_line.proofs.count_places.Goals as goal
 
 pub returns-then-rest-lt10 : goal.returns-then-rest-lt10

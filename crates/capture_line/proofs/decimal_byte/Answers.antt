@@ -1,7 +1,6 @@
 -- `decimal_byte`: below the number of places the digit with the rest to its right, by `decimal_at`.
 -- Past them 0, as the list has it.
 use Rattle.capture_line.proofs.Laws.{decimal_at, decimal_past}
-use borrow.Author.Rules.{rules}
 use Rattle.capture_line.proofs.decimal_byte.Goals as goal
 
 pub returns-then-i-k : goal.returns-then-i-k

@@ -1,11 +1,9 @@
 -- `digit_at`: k divisions are done and j - k are left; what is left names the same digit.
 -- Each turn cites `digit_again`, and the end `digit_last`.
-use mathlib.Core.Path.{◌≡◌, sym, ap, ◌∙◌}
-use Prim.Native.Nat.{◌+◌, ◌-◌, ◌≤◌}
+use mathlib.Core.Path.{sym, ap, ◌∙◌}
+use Prim.Native.Nat.{◌+◌}
 use native.Mathlib.Omega.{arith}
-use borrow.Author.Rules.{rules}
-use Rattle.capture_line.specs.Digits.{digit_at}
-use Rattle.capture_line.proofs.Laws.{digit_first, digit_again, digit_last}
+use Rattle.capture_line.proofs.Laws.{digit_again, digit_last}
 use Rattle.capture_line.proofs.digit_at.Goals as goal
 
 pub loop-k-preserved : goal.loop-k-preserved

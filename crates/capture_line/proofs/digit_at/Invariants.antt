@@ -1,11 +1,8 @@
 -- `digit_at`: k divisions are done and j - k are left; what is left names the same digit.
 -- Each turn cites `digit_again`, and the end `digit_last`.
-use mathlib.Core.Path.{◌≡◌, sym, ap, ◌∙◌}
-use Prim.Native.Nat.{◌+◌, ◌-◌, ◌≤◌}
-use native.Mathlib.Omega.{arith}
-use borrow.Author.Rules.{rules}
+use mathlib.Core.Path.{◌≡◌}
+use Prim.Native.Nat.{◌-◌, ◌≤◌}
 use Rattle.capture_line.specs.Digits.{digit_at}
-use Rattle.capture_line.proofs.Laws.{digit_first, digit_again, digit_last}
 use Rattle.capture_line.proofs.digit_at.Given as goal
 
 abbrev pub invariant-loop-k : goal.invariant-loop-k

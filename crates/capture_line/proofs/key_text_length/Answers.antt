@@ -1,9 +1,8 @@
 -- `key_text_length`: what `read_file_name` answers is what the definition goes by.
 -- The sum is the text's length, by `named_length`.
-use mathlib.Core.Path.{refl, sym, ◌∙◌}
+use mathlib.Core.Path.{sym, ◌∙◌}
 use native.Mathlib.Omega.{arith}
 use Rattle.capture_line.proofs.Laws.{named_length}
-use borrow.Author.Rules.{rules}
 use Rattle.capture_line.proofs.key_text_length.Goals as goal
 
 pub returns-in-Name : goal.returns-in-Name

@@ -2,7 +2,6 @@
 -- Each return cites the law of its side of the seam.
 use Rattle.capture_line.specs.Text.{line_of}
 use Rattle.capture_line.proofs.Laws.{in_number, after_number, behind_number}
-use borrow.Author.Rules.{rules}
 use Rattle.capture_line.proofs.line_byte.Goals as goal
 
 pub returns-then-i-k : goal.returns-then-i-k

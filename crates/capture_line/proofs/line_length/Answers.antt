@@ -1,7 +1,6 @@
 -- `line_length`: three parts and the three bytes between and behind them.
 -- The sum is the line's length, by `line_length_is`.
 use Rattle.capture_line.proofs.Laws.{line_length_is}
-use borrow.Author.Rules.{rules}
 use Rattle.capture_line.proofs.line_length.Goals as goal
 
 pub returns : goal.returns

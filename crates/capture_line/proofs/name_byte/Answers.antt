@@ -1,7 +1,6 @@
 -- `name_byte`: the point of an empty name, a digit of a unit, or nothing.
 -- Each return cites the law of its case.
 use Rattle.capture_line.proofs.Laws.{name_dot, name_end, name_digit, name_past}
-use borrow.Author.Rules.{rules}
 use Rattle.capture_line.proofs.name_byte.Goals as goal
 
 pub returns-then-i-eq0 : goal.returns-then-i-eq0

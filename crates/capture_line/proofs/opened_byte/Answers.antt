@@ -2,7 +2,6 @@
 -- Each return cites the law of its side of the seam.
 use mathlib.Core.Path.{◌∙◌}
 use Rattle.capture_line.proofs.Laws.{opened_word_lem, opened_number}
-use borrow.Author.Rules.{rules}
 use Rattle.capture_line.proofs.opened_byte.Goals as goal
 
 pub returns-then-i-lt7 : goal.returns-then-i-lt7

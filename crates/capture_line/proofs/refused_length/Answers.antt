@@ -1,7 +1,6 @@
 -- `refused_length`: the word, the number's places, the newline.
 -- The sum is the line's length, by `refused_length_is`.
 use Rattle.capture_line.proofs.Laws.{refused_length_is}
-use borrow.Author.Rules.{rules}
 use Rattle.capture_line.proofs.refused_length.Goals as goal
 
 pub returns : goal.returns

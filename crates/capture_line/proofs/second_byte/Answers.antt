@@ -1,7 +1,6 @@
 -- `second_byte`: the sequence's bytes, the space, what follows.
 -- Each return cites the law of its side of the seam.
 use Rattle.capture_line.proofs.Laws.{in_number, after_number, behind_number}
-use borrow.Author.Rules.{rules}
 use Rattle.capture_line.proofs.second_byte.Goals as goal
 
 pub returns-then-i-k : goal.returns-then-i-k
