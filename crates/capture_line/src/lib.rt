@@ -38,6 +38,7 @@ fn count_places(n: u64) -> usize
 }
 
 // The digit of n with j digits to its right, as a byte.
+#[tactic(auto, using(crate::proofs::Laws::digit_again, crate::proofs::Laws::digit_last))]
 fn digit_at(n: u64, j: usize) -> u8
     ensures { result ≡ 48 + digit_at j n }
 {
@@ -51,6 +52,7 @@ fn digit_at(n: u64, j: usize) -> u8
     48 + digit
 }
 
+#[tactic(auto, using(crate::proofs::Laws::decimal_at, crate::proofs::Laws::decimal_past))]
 fn decimal_byte(n: u64, i: usize) -> u8
     ensures { result ≡ get_or (decimal n) i 0 }
 {
@@ -62,6 +64,7 @@ fn decimal_byte(n: u64, i: usize) -> u8
 }
 
 // A number and a newline.
+#[tactic(auto, using(crate::proofs::Laws::in_number, crate::proofs::Laws::after_number, crate::proofs::Laws::behind_number))]
 fn counted_byte(n: u64, i: usize) -> u8
     ensures { result ≡ get_or (decimal n ++ (newline ∷ [])) i 0 }
 {
@@ -75,12 +78,14 @@ fn counted_byte(n: u64, i: usize) -> u8
     0
 }
 
+#[tactic(auto, using(crate::proofs::Laws::opened_length_is))]
 pub fn opened_length(n: u64) -> usize
     ensures { result ≡ length (opened_line n) }
 {
     8 + count_places(n)
 }
 
+#[tactic(auto, using(crate::proofs::Laws::opened_word_lem, crate::proofs::Laws::opened_number))]
 pub fn opened_byte(n: u64, i: usize) -> u8
     ensures { result ≡ get_or (opened_line n) i 0 }
 {
@@ -96,12 +101,14 @@ fn wide8(x: u8) -> u64
     x as u64
 }
 
+#[tactic(auto, using(crate::proofs::Laws::refused_length_is))]
 pub fn refused_length(r: Refusal) -> usize
     ensures { result ≡ length (refused_line r) }
 {
     9 + count_places(wide8(r.number()))
 }
 
+#[tactic(auto, using(crate::proofs::Laws::refused_word_lem, crate::proofs::Laws::refused_number))]
 pub fn refused_byte(r: Refusal, i: usize) -> u8
     ensures { result ≡ get_or (refused_line r) i 0 }
 {
@@ -135,6 +142,7 @@ fn hex_byte(unit: u16, k: usize) -> u8
 }
 
 // Byte i of a name's text: digit i % 4 of unit i / 4.
+#[tactic(auto, using(crate::proofs::Laws::name_dot, crate::proofs::Laws::name_end, crate::proofs::Laws::name_digit, crate::proofs::Laws::name_past))]
 fn name_byte(name: &[u8], i: usize) -> u8
     ensures { result ≡ get_or (name_text (units_of name.now)) i 0 }
 {
@@ -164,6 +172,7 @@ fn unreadable_byte(i: usize) -> u8
 }
 
 // A namespace, a space, a name.
+#[tactic(auto, using(crate::proofs::Laws::in_number, crate::proofs::Laws::after_number, crate::proofs::Laws::behind_number))]
 fn named_byte(namespace: u8, name: &[u8], i: usize) -> u8
     ensures { result ≡ get_or (decimal namespace ++ (space ∷ name_text (units_of name.now))) i 0 }
 {
@@ -210,6 +219,7 @@ fn name_length(units: u8) -> usize
     4 * (units as usize)
 }
 
+#[tactic(auto, using(crate::proofs::Laws::named_length))]
 fn key_text_length(key: &[u8]) -> usize
     ensures { (result ≡ length (key_text (file_name_of key.now) key.now)) × (result ≤ 1041) }
 {
@@ -265,6 +275,7 @@ fn third_byte(entry: &[u8], i: usize) -> u8
 }
 
 // What follows the first space: the sequence, a space, the rest.
+#[tactic(auto, using(crate::proofs::Laws::in_number, crate::proofs::Laws::after_number, crate::proofs::Laws::behind_number))]
 fn second_byte(entry: &[u8], i: usize) -> u8
     ensures { result ≡ get_or (decimal (sequence_of (reference_of entry.now)) ++ (space ∷ (key_part_text (key_of entry.now) ++ (newline ∷ [])))) i 0 }
 {
@@ -279,6 +290,7 @@ fn second_byte(entry: &[u8], i: usize) -> u8
     third_byte(entry, i - k - 1)
 }
 
+#[tactic(auto, using(crate::proofs::Laws::in_number, crate::proofs::Laws::after_number, crate::proofs::Laws::behind_number), unfolding(crate::specs::Text::line_of))]
 pub fn line_byte(entry: &[u8], i: usize) -> u8
     ensures { result ≡ get_or (line_of entry.now) i 0 }
 {
@@ -293,6 +305,7 @@ pub fn line_byte(entry: &[u8], i: usize) -> u8
     second_byte(entry, i - k - 1)
 }
 
+#[tactic(auto, using(crate::proofs::Laws::line_length_is))]
 pub fn line_length(entry: &[u8]) -> usize
     ensures { result ≡ length (line_of entry.now) }
 {
