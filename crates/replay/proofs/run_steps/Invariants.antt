@@ -1,7 +1,6 @@
 -- `run_steps`: so many steps, and no more.
 -- Nothing is promised of what is printed: the output is compared.
 use Prim.Native.Nat.{◌≤◌, ◌-◌}
-use borrow.Author.Rules.{rules}
 use Rattle.replay.proofs.run_steps.Given as goal
 
 abbrev pub invariant-loop-k : goal.invariant-loop-k
