@@ -3,7 +3,6 @@
 use Prim.Native.Nat.{◌-◌}
 use lib.ListN.{length}
 use mathlib.Core.Path.{◌≡◌}
-use borrow.Author.Rules.{rules}
 use Rattle.replay_captures.proofs.main.Given as goal
 
 abbrev pub invariant-loop-captures : goal.invariant-loop-captures
