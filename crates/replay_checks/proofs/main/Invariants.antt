@@ -3,7 +3,6 @@
 use Prim.Native.Nat.{◌-◌}
 use mathlib.Core.Path.{◌≡◌}
 use lib.ListN.{length}
-use borrow.Author.Rules.{rules}
 use Rattle.replay_checks.proofs.main.Given as goal
 
 abbrev pub invariant-loop-cases : goal.invariant-loop-cases
