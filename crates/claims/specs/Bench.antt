@@ -6,7 +6,6 @@ use Rattle.upcase_table.specs.declared.Compared.{Compared}
 use Rattle.upcase_table.specs.declared.Compared.TheVariants.{Ordered}
 use Rattle.upcase_table.specs.Names.{units_of, compared_names}
 use Rattle.index_allocation.specs.declared.Block.{Block}
-use Rattle.index_allocation.specs.declared.Block.TheVariants as Block
 use Rattle.index_allocation.specs.Vcn.{block_of}
 use Rattle.refusal.specs.Part.{Part, absent, refused, present}
 use Rattle.index_entry.specs.Entry.{entry_at, key_of, subnode_of}
