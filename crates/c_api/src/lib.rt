@@ -24,7 +24,7 @@ use index_node::{Node, Place};
 use refusal::Refusal;
 
 // Numbers of a cursor: depth, opened, refusal kept, and five for each of 8 levels.
-const WORDS: usize = 43;
+pub const WORDS: usize = 43;
 
 // Where the name begins in an entry: after its 16 bytes of header, and 66 of the key.
 const NAME_OFFSET: u64 = 82;
@@ -371,8 +371,7 @@ fn cursor_from(w: &[u64; WORDS]) -> Cursor
 }
 
 // A listing that has not begun.
-#[unsafe(no_mangle)]
-pub extern "C" fn ntfs_new_cursor(cursor: &mut [u64; WORDS])
+pub fn ntfs_new_cursor(cursor: &mut [u64; WORDS])
     ensures { cursor.new ≡ cursor_words new_cursor }
 {
     let w = cursor_words(index::new_cursor());
@@ -380,8 +379,7 @@ pub extern "C" fn ntfs_new_cursor(cursor: &mut [u64; WORDS])
 }
 
 // One step of a listing: its answer, and the cursor to go on with.
-#[unsafe(no_mangle)]
-pub extern "C" fn ntfs_step<'a>(
+pub fn ntfs_step<'a>(
     root: &'a [u8],
     pool: &'a [u8],
     cluster: usize,
@@ -402,8 +400,7 @@ pub extern "C" fn ntfs_step<'a>(
 }
 
 // Lookup of a name under an upcase table.
-#[unsafe(no_mangle)]
-pub extern "C" fn ntfs_find<'a>(
+pub fn ntfs_find<'a>(
     root: &'a [u8],
     pool: &'a [u8],
     cluster: usize,
@@ -420,8 +417,7 @@ pub extern "C" fn ntfs_find<'a>(
 }
 
 // The checker: a pass or the first fault, and a mark for each record.
-#[unsafe(no_mangle)]
-pub extern "C" fn ntfs_check<'a>(
+pub fn ntfs_check<'a>(
     root: &'a [u8],
     pool: &'a [u8],
     cluster: usize,
@@ -438,8 +434,7 @@ pub extern "C" fn ntfs_check<'a>(
 }
 
 // What the bytes of an entry say of its file reference and its name.
-#[unsafe(no_mangle)]
-pub extern "C" fn ntfs_entry_name(entry: &[u8], answer: &mut [u64; 7])
+pub fn ntfs_entry_name(entry: &[u8], answer: &mut [u64; 7])
     ensures { answer.new ≡ entry_name_words entry.now }
 {
     let w = entry_name_words(entry);
