@@ -52,7 +52,8 @@ module _ (bytes entry key : List ℕ) {s u : ℕ}
   unfolding entry_name_words
   tells = record { entry_there = e; key_there = k; within = rw (e, k, f) lent; same = rw (e, k, f) in_lent }
 
-pub tells_name : (bytes : List ℕ) → get_or (entry_name_words bytes) 0 0 ≡ 1 → (entry : List ℕ) × (key : List ℕ) × TellsName bytes (entry_name_words bytes) entry key
+pub tells_name : (bytes : List ℕ) → get_or (entry_name_words bytes) 0 0 ≡ 1
+    → (entry : List ℕ) × (key : List ℕ) × TellsName bytes (entry_name_words bytes) entry key
 unfolding entry_name_words
 tells_name bytes h = elim (look (entry_at bytes 0)) [
   | it absent e ↦ absurd (omega (arith, rw (e, entry_name_words) at h))

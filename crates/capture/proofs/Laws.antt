@@ -231,7 +231,12 @@ records_fit (suc fuel) s l at count b m e = elim (look (field_at s at)) [
         let k = a.alike in
         let n : at + head_size + l.size ≡ at + (head_size + l.size) = omega arith in
         records_fit fuel s l (at + head_size + l.size) (count + 1)
-        (record { root_in_lem = b.root_in_lem; at_is = rw n (next_at l.first at count (head_size + l.size) b.at_is); at_in = omega arith; pool_in_lem = a.fits })
+        (record {
+          root_in_lem = b.root_in_lem;
+          at_is = rw n (next_at l.first at count (head_size + l.size) b.at_is);
+          at_in = omega arith;
+          pool_in_lem = a.fits;
+        })
         m (rw (p, q, records_from) at e)
     | it false q ↦ elim (look (closes s at tag size)) [
       | it false r ↦ absurd (never (rw (p, q, r, records_from) at e))

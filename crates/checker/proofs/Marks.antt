@@ -71,7 +71,9 @@ mark_length (r ∷ rs) m = mark_length rs (set m r 1) ∙ length-set m r 1
 pub mark_other : (rs m : List ℕ) (i : ℕ) → ¬ (Memᴰ i rs) → get_or (mark rs m) i 0 ≡ get_or m i 0
 unfolding mark
 mark_other [] m i n = refl
-mark_other (r ∷ rs) m i n = mark_other rs (set m r 1) i (λ j. n (mathlib.Core.List.Memᴰ.tail j)) ∙ get_or-set_other m r i 1 0 (λ e. n (mathlib.Core.List.Memᴰ.head e))
+mark_other (r ∷ rs) m i n =
+    mark_other rs (set m r 1) i (λ j. n (mathlib.Core.List.Memᴰ.tail j))
+    ∙ get_or-set_other m r i 1 0 (λ e. n (mathlib.Core.List.Memᴰ.head e))
 
 mark_keeps : (rs m : List ℕ) (i : ℕ) → i < length m → get_or m i 0 ≡ 1 → get_or (mark rs m) i 0 ≡ 1
 unfolding mark

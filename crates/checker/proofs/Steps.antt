@@ -284,7 +284,8 @@ module _ {table : List ℕ} {m : Memory} {node : View} {left : ℕ} {whole : Che
     | it (Fresh.Record number sub) p ↦ clash (cc (rw p at h))
   ]
 
-  pub visit_done : (o : Outcome) → Visit.Done o ≡ visit_of m table node marks left w (judge_of looks) → (checked_says m o marks ≡ whole) × (count_of o ≤ w.count)
+  pub visit_done : (o : Outcome) → Visit.Done o ≡ visit_of m table node marks left w (judge_of looks)
+      → (checked_says m o marks ≡ whole) × (count_of o ≤ w.count)
   visit_done o h = shows_done (judge_of looks) o refl h
 
   shows_on : (j : Judgement) (v : Walk) (n : ℕ) → j ≡ judge_of looks → Visit.Onward v n ≡ visit_of m table node marks left w j
