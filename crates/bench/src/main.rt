@@ -1,119 +1,103 @@
-// Prints the bench examples P1 to P11 as the proved functions answer them.
+//! Prints the bench examples P1 to P11 as the proved functions answer them.
 #![tactic(auto)]
 
-use index_allocation::Block;
-use index_entry::{EntryAt, KeyPart, Subnode};
-use ordering::Ordering;
+use index_entry::IndexEntry;
 use refusal::Refusal;
-use upcase_table::Compared;
+use replay_cases::MadeTable;
+use std::alloc::{AllocError, Global};
+use std::cmp::Ordering;
+use std::{fmt, io};
+use upcase_table::{LeUnits, UpcaseTable, compare};
 
-fn print(text: &[u8]) {
-    io::write_all(1, text);
-}
+/// An answer, as its line shows it.
+#[derive(Clone, Copy)]
+struct Shown<T>(T);
 
-fn print_refusal(r: Refusal) {
-    print(b"refused ");
-    io::print_decimal(1, r.number() as u64);
-    print(b"\n");
-}
-
-fn print_ordering(o: Ordering) {
-    match o {
-        Ordering::Less => print(b"less\n"),
-        Ordering::Equal => print(b"equal\n"),
-        Ordering::Greater => print(b"greater\n"),
+impl fmt::Display for Shown<Refusal> {
+    fn fmt<W: fmt::Write>(&self, f: &mut fmt::Formatter<W>) -> fmt::Result {
+        write!(f, "refused {}", self.0.number())
     }
 }
 
-fn print_compared(c: Compared) {
-    match c {
-        Compared::Ordered(o) => print_ordering(o),
-        Compared::Refused(r) => print_refusal(r),
-    }
-}
-
-fn print_entry(e: EntryAt) {
-    match e {
-        EntryAt::Entry(length) => {
-            print(b"entry of ");
-            io::print_decimal(1, length as u64);
-            print(b"\n");
+impl fmt::Display for Shown<Result<Ordering, Refusal>> {
+    fn fmt<W: fmt::Write>(&self, f: &mut fmt::Formatter<W>) -> fmt::Result {
+        match self.0 {
+            Ok(Ordering::Less) => write!(f, "less"),
+            Ok(Ordering::Equal) => write!(f, "equal"),
+            Ok(Ordering::Greater) => write!(f, "greater"),
+            Err(refusal) => write!(f, "{}", Shown(refusal)),
         }
-        EntryAt::Refused(r) => print_refusal(r),
     }
 }
 
-fn print_key(k: KeyPart) {
-    match k {
-        KeyPart::Absent => print(b"no key\n"),
-        KeyPart::Present => print(b"a key\n"),
-        KeyPart::Refused(r) => print_refusal(r),
-    }
-}
-
-fn print_block(b: Block) {
-    match b {
-        Block::Number(n) => {
-            print(b"VCN ");
-            io::print_decimal(1, n as u64);
-            print(b"\n");
+impl fmt::Display for Shown<Result<IndexEntry<'_>, Refusal>> {
+    fn fmt<W: fmt::Write>(&self, f: &mut fmt::Formatter<W>) -> fmt::Result {
+        match self.0 {
+            Ok(entry) => write!(f, "entry of {}", entry.bytes.len()),
+            Err(refusal) => write!(f, "{}", Shown(refusal)),
         }
-        Block::Refused(r) => print_refusal(r),
     }
 }
 
-fn print_subnode(s: Subnode) {
-    match s {
-        Subnode::Absent => print(b"no VCN\n"),
-        Subnode::Vcn(v) => {
-            if v == -1 {
-                print(b"VCN -1, ");
+impl fmt::Display for Shown<Result<Option<&[u8]>, Refusal>> {
+    fn fmt<W: fmt::Write>(&self, f: &mut fmt::Formatter<W>) -> fmt::Result {
+        match self.0 {
+            Ok(Some(_)) => write!(f, "a key"),
+            Ok(None) => write!(f, "no key"),
+            Err(refusal) => write!(f, "{}", Shown(refusal)),
+        }
+    }
+}
+
+impl fmt::Display for Shown<Result<usize, Refusal>> {
+    fn fmt<W: fmt::Write>(&self, f: &mut fmt::Formatter<W>) -> fmt::Result {
+        match self.0 {
+            Ok(number) => write!(f, "VCN {number}"),
+            Err(refusal) => write!(f, "{}", Shown(refusal)),
+        }
+    }
+}
+
+impl fmt::Display for Shown<Result<Option<i64>, Refusal>> {
+    fn fmt<W: fmt::Write>(&self, f: &mut fmt::Formatter<W>) -> fmt::Result {
+        match self.0 {
+            Ok(None) => write!(f, "no VCN"),
+            Ok(Some(vcn)) => {
+                if vcn == -1 {
+                    write!(f, "VCN -1, ")?;
+                }
+                write!(f, "{}", Shown(index_allocation::block_number(vcn)))
             }
-            print_block(index_allocation::block_number(v))
+            Err(refusal) => write!(f, "{}", Shown(refusal)),
         }
-        Subnode::Refused(r) => print_refusal(r),
     }
 }
 
-// T: the identity but for 0x61 to 0x7A, which lose 32.
-fn bench_unit(i: usize) -> u16 {
-    let u = (i % 65536) as u16;
-    if u < 0x61 {
-        return u;
-    }
-    if 0x7A < u {
-        return u;
-    }
-    u - 32
+fn table_t(alloc: Global) -> Result<Vec<u16>, AllocError> {
+    (0..=u16::MAX)
+        .map(|unit| MadeTable::T.unit(unit))
+        .collect(alloc)
 }
 
-fn bench_table() -> [u16; 65536] {
-    let mut table = [0u16; 65536];
-    for i in 0..65536 {
-        table[i] = bench_unit(i);
+/// A sought name against a name in a key's bytes.
+fn compared(table: &[u16], name: &[u16], other: &[u8]) -> Shown<Result<Ordering, Refusal>> {
+    match UpcaseTable::try_from(table) {
+        Ok(table) => Shown(Ok(compare(&table, name, LeUnits::new(other)))),
+        Err(refusal) => Shown(Err(refusal)),
     }
-    table
 }
 
-fn print_names() {
-    let table = bench_table();
-    let a = [0x61u16];
-    let ab = [0x61u16, 0x62];
-    let upper = [0x41u8, 0];
-    let low_line = [0x5Fu8, 0];
-    print(b"P1 ");
-    print_compared(upcase_table::upcase_cmp(&table, &a, &upper));
-    print(b"P2 ");
-    print_compared(upcase_table::upcase_cmp(&table, &a[..0], &upper));
-    print(b"P3 ");
-    print_compared(upcase_table::upcase_cmp(&table, &ab, &upper));
-    print(b"P4 ");
-    print_compared(upcase_table::upcase_cmp(&table, &a, &low_line));
+fn print_names<R: Print + AllocGlobal>(rt: &R) -> io::Result<()> {
+    let table = table_t(rt.alloc())?;
+    println!(rt; "P1 {}", compared(&table, &[0x61], b"A\0"))?;
+    println!(rt; "P2 {}", compared(&table, &[], b"A\0"))?;
+    println!(rt; "P3 {}", compared(&table, &[0x61, 0x62], b"A\0"))?;
+    println!(rt; "P4 {}", compared(&table, &[0x61], b"_\0"))
 }
 
-// A node's bytes: an entry with a key length of 68, and at 16 and at 88 a VCN that is its own offset.
-fn example(length: u8, flags: u8) -> [u8; 96] {
-    let mut node = [0u8; 96];
+/// A node's bytes: an entry with a key length of 68, and at 16 and at 88 a VCN that is its own offset.
+fn node(length: u8, flags: u8) -> [u8; 96] {
+    let mut node = [0; 96];
     node[8] = length;
     node[10] = 68;
     node[12] = flags;
@@ -122,45 +106,42 @@ fn example(length: u8, flags: u8) -> [u8; 96] {
     node
 }
 
-fn print_entry_line(label: &[u8], length: u8, flags: u8) {
-    let node = example(length, flags);
-    print(label);
-    print_entry(index_entry::entry_at(&node, 0));
+fn entry_in(node: &[u8]) -> Shown<Result<IndexEntry<'_>, Refusal>> {
+    Shown(IndexEntry::new(node, 0))
 }
 
-fn print_key_line(label: &[u8], length: u8, flags: u8) {
-    let node = example(length, flags);
-    print(label);
-    print_key(index_entry::key(index_entry::entry_bytes(&node, 0)));
+fn key_in(node: &[u8]) -> Shown<Result<Option<&[u8]>, Refusal>> {
+    match IndexEntry::new(node, 0) {
+        Ok(entry) => Shown(entry.key()),
+        Err(refusal) => Shown(Err(refusal)),
+    }
 }
 
-fn print_subnode_line(label: &[u8], length: u8, flags: u8) {
-    let node = example(length, flags);
-    print(label);
-    print_subnode(index_entry::subnode_vcn(index_entry::entry_bytes(&node, 0)));
+fn vcn_in(node: &[u8]) -> Shown<Result<Option<i64>, Refusal>> {
+    match IndexEntry::new(node, 0) {
+        Ok(entry) => Shown(entry.subnode_vcn()),
+        Err(refusal) => Shown(Err(refusal)),
+    }
 }
 
-fn print_entries() {
-    print_entry_line(b"P5 ", 15, 0);
-    print_key_line(b"P6 ", 16, 2);
-    print_subnode_line(b"P6 ", 16, 2);
-    print_subnode_line(b"P7 ", 16, 3);
-    print_subnode_line(b"P8 ", 23, 1);
-    print_subnode_line(b"P9 ", 24, 3);
-    print_subnode_line(b"P10 ", 96, 1);
+fn print_entries<R: Print>(rt: &R) -> io::Result<()> {
+    println!(rt; "P5 {}", entry_in(&node(15, 0)))?;
+    println!(rt; "P6 {}", key_in(&node(16, 2)))?;
+    println!(rt; "P6 {}", vcn_in(&node(16, 2)))?;
+    println!(rt; "P7 {}", vcn_in(&node(16, 3)))?;
+    println!(rt; "P8 {}", vcn_in(&node(23, 1)))?;
+    println!(rt; "P9 {}", vcn_in(&node(24, 3)))?;
+    println!(rt; "P10 {}", vcn_in(&node(96, 1)))
 }
 
-// A VCN of eight bytes 0xFF.
-fn print_negative() {
-    let p11 = [
-        0u8, 0, 0, 0, 0, 0, 0, 0, 24, 0, 68, 0, 1, 0, 0, 0, 255, 255, 255, 255, 255, 255, 255, 255,
-    ];
-    print(b"P11 ");
-    print_subnode(index_entry::subnode_vcn(&p11));
+/// A VCN of eight bytes 0xFF.
+fn print_negative<R: Print>(rt: &R) -> io::Result<()> {
+    let entry = b"\0\0\0\0\0\0\0\0\x18\0\x44\0\x01\0\0\0\xFF\xFF\xFF\xFF\xFF\xFF\xFF\xFF";
+    println!(rt; "P11 {}", vcn_in(entry))
 }
 
-fn main() {
-    print_names();
-    print_entries();
-    print_negative();
+fn main(rt: HostRuntime) -> io::Result<()> {
+    print_names(&rt)?;
+    print_entries(&rt)?;
+    print_negative(&rt)
 }

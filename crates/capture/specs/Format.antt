@@ -1,12 +1,19 @@
 -- The capture format: fields of a one-byte tag, a two-byte little-endian length, the bytes; anything else is 26.
-use Rattle.std.specs.Prelude.{ℕ, zero, suc, ◌+◌, ◌*◌, List, [], ◌++◌, Bool, cond, ◌&&◌, ltb, leb, eqb, length, get_or, take, drop}
-use Rattle.le.specs.Le.{le_at}
+use Rattle.std.specs.Prelude.{ℕ, Bool, option_map, ◌+◌, ◌-◌, ◌*◌, ◌/◌, ◌%◌, ◌==◌, ◌&&◌, nat_eq, nat_lt, nat_le, not, List, [], ◌∷◌, ◌++◌, length}
+use Rattle.std.specs.Prelude.{take, drop, map, slice_index, if◌then◌else◌, Option, Some, None, option_and_then, ok_or, Result}
+use Rattle.std.specs.List.{list_all, starts_with, concat}
+use Rattle.std.specs.Option.{option_map_or}
+use lib.Pointwise.{pointwise}
+use Rattle.std.specs.Int.{from_le_bytes, w32}
+use Rattle.std.specs.Simd.{first_chunks}
+use Rattle.refusal.specs.declared.Refusal.{Refusal}
 use Rattle.refusal.specs.declared.Refusal.TheVariants.{MalformedCapture}
-use Rattle.capture.specs.declared.Field.{Field}
-use Rattle.capture.specs.declared.Field.TheVariants.{Whole, Cut}
-use Rattle.capture.specs.declared.Layout.{Layout}
-use Rattle.capture.specs.declared.Parsed.{Parsed}
-use Rattle.capture.specs.declared.Parsed.TheVariants.{Capture, Refused}
+
+-- what a capture holds; with no records the cluster size is 0
+pub record Contents : Type 0 where
+  pub root : List ℕ
+  pub cluster_size : ℕ
+  pub records : List (List ℕ)
 
 -- at most 65,535 bytes, and of these at most 57,344 of records
 abbrev pub most_bytes : ℕ
@@ -24,85 +31,79 @@ cluster_tag = 2
 abbrev pub record_tag : ℕ
 record_tag = 3
 
-abbrev pub end_tag : ℕ
-end_tag = 255
-
 -- what stands before a field's bytes
 abbrev pub head_size : ℕ
 head_size = 3
 
-abbrev pub malformed : Parsed
-malformed = Refused MalformedCapture
+-- the last field: tag 255, length 0
+abbrev pub end_field : List ℕ
+end_field = 255 ∷ 0 ∷ 0 ∷ []
 
--- the field at at: its tag, the number of its bytes; it lies in the input, or is cut
-unfoldable pub field_at : List ℕ → ℕ → Field
-field_at s at =
-    cond (leb (at + head_size) (length s))
-    (cond (leb (at + head_size + le_at 2 s (at + 1)) (length s)) (Whole (get_or s at 0) (le_at 2 s (at + 1))) Cut)
-    Cut
+-- the bytes of the field in front, if it has this tag, and what follows it
+unfoldable pub split_field : List ℕ → ℕ → Option (List ℕ × List ℕ)
+split_field s tag =
+    let size = slice_index s 1 + 256 * slice_index s 2 in
+    if nat_lt (length s) head_size then None
+    else if not (slice_index s 0 == tag) then None
+    else if nat_lt (length s) (head_size + size) then None
+    else Some (take size (drop head_size s), drop size (drop head_size s))
 
--- tag 255, length 0, last; nothing after it
-abbrev pub closes : List ℕ → ℕ → ℕ → ℕ → Bool
-closes s at tag size = eqb tag end_tag && eqb size 0 && eqb (at + head_size) (length s)
+-- fields so wide, one after the other
+abbrev pub fields_of : (width : ℕ) → List ℕ → List (List ℕ)
+fields_of width s = first_chunks width (length s / width) s
 
--- tag 3, a record each, all of one length, at most 57,344 bytes together
-abbrev pub another : ℕ → ℕ → ℕ → ℕ → Bool
-another one count tag size = eqb tag record_tag && eqb size one && leb ((count + 1) * one) most_pool
+-- the records in fields that have so many bytes each behind their heads
+abbrev pub records_of : (size : ℕ) → List ℕ → List (List ℕ)
+records_of size s = map (drop head_size) (fields_of (head_size + size) s)
 
-abbrev pub records_on : (more : Parsed) → List ℕ → Layout → ℕ → ℕ → Field → Parsed
-records_on more s l at count Cut = malformed
-records_on more s l at count (Whole tag size) =
-    cond (another l.size count tag size) more
-    (cond (closes s at tag size)
-    (Capture (record { root = l.root; cluster = l.cluster; first = l.first; size = l.size; count = count })) malformed)
+-- all of one length, at most 57,344 bytes together
+unfoldable pub fits_pool : (size : ℕ) → List ℕ → Bool
+fits_pool size s = (length s % (head_size + size) == 0) && nat_le (length (concat (records_of size s))) most_pool
 
--- the records from at on, after count of them; each takes three bytes at least, so that as many as there are bytes are enough
-unfoldable pub records_from : (fuel : ℕ) → List ℕ → Layout → (at count : ℕ) → Parsed
-records_from zero s l at count = malformed
-records_from (suc fuel) s l at count =
-    records_on (records_from fuel s l (at + head_size + l.size) (count + 1)) s l at count (field_at s at)
+-- each begins as the first does
+unfoldable pub is_one_head : (width : ℕ) → List ℕ → Bool
+is_one_head width s = list_all (λ field. starts_with nat_eq field (take head_size s)) (fields_of width s)
 
--- one or more records follow a cluster size: the first says how long each is
-abbrev pub first_record : List ℕ → (root cluster at : ℕ) → Field → Parsed
-first_record s root cluster at Cut = malformed
-first_record s root cluster at (Whole tag size) =
-    cond (another size 0 tag size)
-    (records_from (length s) s (record { root = root; cluster = cluster; first = at; size = size; count = 0 }) (at + head_size + size) 1)
-    malformed
+-- records, each a field of tag 3: one or more
+unfoldable pub records_in : List ℕ → Option (List (List ℕ))
+records_in s = option_and_then (λ first.
+    let size = length first.0 in
+    if fits_pool size s && is_one_head (head_size + size) s then Some (records_of size s) else None) (split_field s record_tag)
 
--- after the root: the end, or a cluster size of four bytes and records
-abbrev pub after_root : List ℕ → (root at : ℕ) → Field → Parsed
-after_root s root at Cut = malformed
-after_root s root at (Whole tag size) =
-    cond (closes s at tag size) (Capture (record { root = root; cluster = 0; first = 0; size = 0; count = 0 }))
-    (cond (eqb tag cluster_tag && eqb size 4)
-    (first_record s root (le_at 4 s (at + head_size)) (at + head_size + 4) (field_at s (at + head_size + 4))) malformed)
+abbrev pub is_end : List ℕ → Bool
+is_end s = pointwise nat_eq s end_field
 
--- the root, once, first
-abbrev pub root_first : List ℕ → Field → Parsed
-root_first s Cut = malformed
-root_first s (Whole tag size) =
-    cond (eqb tag root_tag) (after_root s size (head_size + size) (field_at s (head_size + size))) malformed
+-- tag 255, length 0, last; nothing after it: what stands before it
+abbrev pub before_end : List ℕ → Option (List ℕ)
+before_end s = if is_end (drop (length s - length end_field) s) then Some (take (length s - length end_field) s) else None
 
-unfoldable pub parsed : List ℕ → Parsed
-parsed s = cond (ltb most_bytes (length s)) malformed (root_first s (field_at s 0))
+-- the four bytes of a cluster size
+abbrev pub cluster_size_in : List ℕ → Option ℕ
+cluster_size_in bytes = if length bytes == 4 then Some (from_le_bytes w32 bytes) else None
+
+-- the root, once, first; then the end, or a cluster size and records and the end
+unfoldable pub captured : List ℕ → Option Contents
+captured s =
+    if nat_lt most_bytes (length s) then None
+    else option_and_then (λ root.
+    if is_end root.1 then Some (record { root = root.0; cluster_size = 0; records = [] })
+    else option_and_then (λ cluster.
+    option_and_then (λ size.
+    option_and_then (λ fields.
+    option_map (λ records. record { root = root.0; cluster_size = size; records = records }) (records_in fields))
+    (before_end cluster.1)) (cluster_size_in cluster.0)) (split_field root.1 cluster_tag)) (split_field s root_tag)
+
+unfoldable pub parsed : List ℕ → Result Contents Refusal
+parsed s = ok_or (captured s) MalformedCapture
 
 -- the root's bytes, of a capture that is well formed
-abbrev pub root_in : List ℕ → Parsed → List ℕ
-root_in s (Refused r) = []
-root_in s (Capture l) = take l.root (drop head_size s)
-
 unfoldable pub root_of : List ℕ → List ℕ
-root_of s = root_in s (parsed s)
+root_of s = option_map_or (λ capture. capture.root) (captured s) []
+
+-- in front of what was there before
+abbrev pub put_over : (old bytes : List ℕ) → List ℕ
+put_over old bytes = bytes ++ drop (length bytes) old
 
 -- the records' bytes, end to end
-unfoldable pub pool_from : (count : ℕ) → List ℕ → (size at : ℕ) → List ℕ
-pool_from zero s size at = []
-pool_from (suc count) s size at = take size (drop (at + head_size) s) ++ pool_from count s size (at + head_size + size)
-
-abbrev pub pool_in : List ℕ → Parsed → List ℕ
-pool_in s (Refused r) = []
-pool_in s (Capture l) = pool_from l.count s l.size l.first
-
 unfoldable pub pool_of : List ℕ → List ℕ
-pool_of s = pool_in s (parsed s)
+pool_of s = option_map_or (λ capture. concat capture.records) (captured s) []

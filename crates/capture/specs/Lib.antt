@@ -1,1 +1,3 @@
+pub mod Contents
 pub mod Format
+pub mod Written

@@ -1,40 +1,39 @@
--- The promises of the leaves, each from the laws of its crate.
--- A number is split at a limb by the laws of digits, over the limb's size.
-use Prim.Native.Nat.{ℕ, ◌+◌, ◌*◌, ◌/◌, ◌%◌, ◌<◌}
-use mathlib.Core.Path.{◌≡◌}
-use native.Mathlib.Nat.{add_comm, mul_comm}
-use native.Mathlib.Omega.{arith}
-use borrow.Author.Tests.{le-leb}
-use lib.Arith.{digits_div, digits_mod}
-use lib.ListN.{length}
+-- The promises of the leaves.
+use Rattle.std.proofs.Common.{ℕ, ◌≡◌, ◌+◌, ◌*◌, ◌≤◌, ◌<◌, List, length, slice_index, refl, sym, ◌∙◌, ap, arith, nat_le, true}
+use Rattle.std.proofs.lemmas.Grind.{common_steps}
+use Rattle.std.proofs.Math.Arith.{digits_div, digits_mod}
 use Rattle.le.specs.Le.{bytes_at, le_at}
-use Rattle.le.proofs.Laws.{join, below}
-use Rattle.upcase_table.proofs.Laws.{names_total}
 use Rattle.file_reference.specs.Reference.{reference_of}
-use Rattle.index_entry.proofs.Laws.{entered}
+use Rattle.index_entry.specs.Entry.{entry_at}
+use Rattle.upcase_table.specs.Names.{name_order-total}
 use Rattle.claims.specs.Leaves.{NamesTotal, EntryAsLong, ReferenceSplit}
+use Rattle.claims.proofs.Totals.{total-laws}
 
-pub names_are_total : NamesTotal
-names_are_total = names_total
+pub names_total : NamesTotal
+names_total upcase = total-laws _ (name_order-total upcase)
 
-pub entry_as_long : EntryAsLong
-entry_as_long node at entry e = (entered node at entry e).as_said
+pub as_long : EntryAsLong
+unfolding entry_at
+as_long node at entry is = grind (arith, common_steps)
 
-module _ (m lo hi x : ℕ) (small : lo < m) (is : x ≡ lo + m * hi) where
-  low : x % m ≡ lo
-  low = rw (is, add_comm, mul_comm) (digits_mod hi small)
+module _ (bytes : List ℕ) (small : (at : ℕ) → slice_index bytes at < 256) where
+  -- the number of the first six bytes is below the number of the next two, at its place
+  below : bytes_at 6 bytes 0 < 281474976710656
+  below = omega (arith, small 0, small 1, small 2, small 3, small 4, small 5)
 
-  high : x / m ≡ hi
-  high = rw (is, add_comm, mul_comm) (digits_div hi small)
+  joined : bytes_at 8 bytes 0 ≡ bytes_at 2 bytes 6 * 281474976710656 + bytes_at 6 bytes 0
+  joined = omega arith
 
-pub reference_split : ReferenceSplit
-unfolding le_at reference_of
-reference_split s bytes h =
-    let small : bytes_at 6 s 0 < 281474976710656 = below 6 s 0 bytes in
-    let is = join 6 2 s 0 in
-    let e = le-leb 8 (length s) h in
-    let f = le-leb 6 (length s) (omega arith) in
+pub split : ReferenceSplit
+unfolding reference_of
+split bytes small enough =
+    let whole : le_at 8 bytes 0 ≡ bytes_at 2 bytes 6 * 281474976710656 + bytes_at 6 bytes 0 = rw (test enough) (joined bytes small) in
+    let low : le_at 6 bytes 0 ≡ bytes_at 6 bytes 0 = grind (arith, common_steps) in
+    let high : le_at 2 bytes 6 ≡ bytes_at 2 bytes 6 = rw (test enough) refl in
     record {
-      record_number = rw (e, f) (low 281474976710656 (bytes_at 6 s 0) (bytes_at 2 s 6) (bytes_at 8 s 0) small is);
-      sequence = rw e (high 281474976710656 (bytes_at 6 s 0) (bytes_at 2 s 6) (bytes_at 8 s 0) small is);
+      record_number = rw (whole, low) (digits_mod (bytes_at 2 bytes 6) (below bytes small));
+      sequence = rw (whole, high) (digits_div (bytes_at 2 bytes 6) (below bytes small));
     }
+  where
+    test : 8 ≤ length bytes → nat_le 8 (length bytes) ≡ true
+    test enough = grind (arith, common_steps)

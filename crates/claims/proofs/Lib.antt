@@ -1,10 +1,10 @@
-pub mod Bench
 pub mod Capture
 pub mod Checker
-pub mod Checks
 pub mod Coincide
+pub mod Examples
 pub mod Leaves
 pub mod Listing
 pub mod Lookup
 pub mod Nodes
-pub mod Words
+pub mod Places
+pub mod Totals

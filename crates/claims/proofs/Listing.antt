@@ -1,25 +1,17 @@
--- The promises of the listing, from the laws of its crate.
 -- What a step answers is its contract: any result that it admits is the definition's.
-use mathlib.Core.Path.{◌≡◌}
-use Rattle.index_node.specs.Memory.{memory}
-use Rattle.index.specs.Walk.{allow}
-use Rattle.index.specs.Step.{step_of}
-use Rattle.index.proofs.Run as Run
-use Rattle.index.proofs.More as More
-use Rattle.index.proofs.step.Reads as reads
-use Rattle.claims.specs.Listing.{Run, MoreAllowance, FullListing}
-use Rattle.claims.specs.Contract.{Promises}
+use Rattle.std.proofs.Common.{◌≡◌}
+use Rattle.directory.specs.Directory.{spent_at}
+use Rattle.directory.specs.Seen.{lent}
+use Rattle.index.specs.Seen.{taken, stepped}
+use Rattle.index.specs.Step as Step
+use Rattle.index.proofs.Cursor.step.Reads as reads
+use Rattle.index.proofs.step.Reads as by-value
+use Rattle.claims.specs.Contract.{Promises, Leaves}
 
--- one step, for any cursor and any memory, is the definition of a step
-pub step : Promises reads.Post
-    (λ l a x. x ≡ step_of (memory a.0.now a.1.0.now a.1.1.0) (allow a.1.1.1.0) a.1.1.1.1.0)
+-- one step, for any cursor and any directory, is the definition of a step: its answer, and the cursor then
+pub step : Leaves reads.Post (λ l a x s. taken x s.0.now ≡ Step.step (lent a.1.0.now) (spent_at a.1.1.0) a.0.now)
 step l a x s p = p
 
-pub run : Run
-run = Run.run
-
-pub more_allowance : MoreAllowance
-more_allowance = More.more_allowance
-
-pub full_listing : FullListing
-full_listing = More.full_allowance
+-- the same with the cursor in and out by value
+pub step_by_value : Promises by-value.Post (λ l a x. stepped x ≡ Step.step (lent a.0.now) (spent_at a.1.0) a.1.1.0)
+step_by_value l a x s p = p

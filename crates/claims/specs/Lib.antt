@@ -1,6 +1,5 @@
 pub mod Bench
 pub mod Capture
-pub mod Checker
 pub mod Checks
 pub mod Coincide
 pub mod Contract
@@ -8,4 +7,3 @@ pub mod Leaves
 pub mod Listing
 pub mod Lookup
 pub mod Nodes
-pub mod Words

@@ -1,14 +1,21 @@
 -- What is promised of nodes, besides that each function is its definition.
-use Rattle.std.specs.Prelude.{ℕ, ◌+◌, ◌*◌, ◌≤◌, ◌≡◌, List, ℤ, pos, length}
-use Rattle.refusal.specs.Part.{present}
-use Rattle.index_allocation.specs.declared.Lies.TheVariants as Lies
-use Rattle.index_allocation.specs.Place.{record_at}
-use Rattle.index_entry.specs.Entry.{entry_at}
-use Rattle.index_node.specs.declared.Node.{Node}
-use Rattle.index_node.specs.declared.View.{View}
-use Rattle.index_node.specs.declared.Viewed.TheVariants.{Fine}
-use Rattle.index_node.specs.Memory.{Memory, view_bytes, place_bytes}
-use Rattle.index_node.specs.Node.{view_of}
+use Rattle.std.specs.Prelude.{ℕ, ℤ, pos, ◌+◌, ◌*◌, ◌≤◌, ◌≡◌, nat_le, Bool, List, [], length, take, drop, if◌then◌else◌, Ok}
+use Rattle.index_root.specs.Root.{record_size_of}
+use Rattle.index_allocation.specs.Allocation.{record_at}
+use Rattle.directory.specs.declared.place.Place.{Place}
+use Rattle.directory.specs.declared.place.Place.TheVariants.{Root, Record}
+use Rattle.directory.specs.Answer.{some}
+use Rattle.directory.specs.Lent.{Lent, Passed, EntryPlaced, NodeSeen}
+use Rattle.directory.specs.Directory.{passed, node_in}
+use Rattle.directory.specs.Node.{entry_in}
+use Rattle.index.specs.declared.cursor.NodeName.{NodeName}
+use Rattle.index.specs.declared.cursor.Cursor.{Cursor}
+use Rattle.index.specs.Listing.{listing}
+use Rattle.index.specs.Step.{node_at, step}
+use Rattle.index_run.specs.Run.{said_at}
+use Rattle.collation.specs.Kind.{Kind}
+use Rattle.index_finder.specs.Find.{find}
+use Rattle.index_finder.specs.FileNames.{find_file_name}
 
 -- record r at VCN v: it lies whole in the pool, at a multiple of the record size, and there is where the VCN says
 pub record InPool (v : ℤ) (cluster size len r : ℕ) : Type 0 where
@@ -18,13 +25,48 @@ pub record InPool (v : ℤ) (cluster size len r : ℕ) : Type 0 where
   pub whole : r * size + size ≤ len
 
 abbrev pub RecordInPool : Type 0
-RecordInPool = (v : ℤ) (cluster size len r : ℕ) → record_at v cluster size len ≡ Lies.Record r → InPool v cluster size len r
+RecordInPool = (v : ℤ) (cluster size len r : ℕ) → record_at v cluster size len ≡ Ok r → InPool v cluster size len r
 
 abbrev pub OneVcn : Type 0
-OneVcn = (v w : ℤ) (cluster size len r : ℕ) → record_at v cluster size len ≡ Lies.Record r → record_at w cluster size len ≡ Lies.Record r → v ≡ w
+OneVcn = (v w : ℤ) (cluster size len r : ℕ) → record_at v cluster size len ≡ Ok r → record_at w cluster size len ≡ Ok r → v ≡ w
 
--- the bytes handed out for an entry's place are the entry that was met there
-abbrev pub PlaceIsEntry : Type 0
-PlaceIsEntry = (m : Memory) (node : Node) (view : View) (at : ℕ) (entry : List ℕ)
-    → view_of m node ≡ Fine view → entry_at (view_bytes m.root m.pool view) at ≡ present entry
-    → place_bytes m (record { node = node; at = at; size = length entry }) ≡ entry
+-- size bytes from `at`; a part that does not lie in the bytes, first to last, is empty
+abbrev pub part_of : List ℕ → (at size : ℕ) → List ℕ
+part_of bytes at size = if nat_le (at + size) (length bytes) then take size (drop at bytes) else []
+
+-- the bytes that hold a node's entries: the root, or the record of that number in the pool
+abbrev pub held_by : Lent → Place → List ℕ
+held_by d Root = d.root
+held_by d (Record number vcn) = part_of d.pool (number * record_size_of d.root) (record_size_of d.root)
+
+-- the bytes that an entry's place names
+abbrev pub place_bytes : Lent → EntryPlaced → List ℕ
+place_bytes d entry = part_of (held_by d entry.node) entry.at (length entry.bytes)
+
+-- a record's VCN leads to its number
+abbrev pub IsNode : Lent → Place → Type 0
+IsNode d Root = Unit {0}
+IsNode d (Record number vcn) = record_at vcn d.cluster_size (record_size_of d.root) (length d.pool) ≡ Ok number
+
+pub record IsItsPlace (d : Lent) (entry : EntryPlaced) : Type 0 where
+  pub node : IsNode d entry.node
+  pub bytes : place_bytes d entry ≡ entry.bytes
+
+-- the bytes handed out with an entry's place are the entry that stands there: of each entry of a node that was opened; so of each
+-- that a step answers, whatever the cursor, of each that is listed, and of each that a lookup answers, by a file name or in any kind of key;
+-- and of each of a record that was read, also where 1 to 7 refuse the directory
+pub record PlaceIsEntry : Type 0 where
+  pub record_read : (d : Lent) (vcn : ℤ) (number : ℕ) (node : NodeSeen) (at : ℕ) (entry : EntryPlaced)
+      → record_at vcn d.cluster_size (record_size_of d.root) (length d.pool) ≡ Ok number
+      → node_in (record { number = number; vcn = vcn; bytes = take (record_size_of d.root) (drop (number * record_size_of d.root) d.pool) }) ≡ Ok node
+      → entry_in node at ≡ Ok entry → IsItsPlace d entry
+  pub opened : (d : Lent) (p : Passed) (name : NodeName) (node : NodeSeen) (at : ℕ) (entry : EntryPlaced)
+      → passed d ≡ Ok p → node_at p name ≡ Ok node → entry_in node at ≡ Ok entry → IsItsPlace d entry
+  pub step : (d : Lent) (spent : ℕ → Bool) (cursor : Cursor) (entry : EntryPlaced) (opened : ℕ)
+      → (step d spent cursor).answer ≡ some entry opened → IsItsPlace d entry
+  pub listing : (d : Lent) (spent : ℕ → Bool) (at : ℕ) (entry : EntryPlaced) (opened : ℕ)
+      → said_at (listing d spent) at ≡ some entry opened → IsItsPlace d entry
+  pub lookup : (d : Lent) (spent : ℕ → Bool) (table name : List ℕ) (entry : EntryPlaced) (opened : ℕ)
+      → find_file_name d spent table name ≡ some entry opened → IsItsPlace d entry
+  pub lookup_of_kind : (d : Lent) (spent : ℕ → Bool) (kind : Kind (List ℕ)) (sought : List ℕ) (entry : EntryPlaced) (opened : ℕ)
+      → find d spent kind sought ≡ some entry opened → IsItsPlace d entry

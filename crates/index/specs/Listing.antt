@@ -1,52 +1,52 @@
--- The listing, as a recursion: an entry's subnode first, then the entry; a LAST_ENTRY is never yielded, though its subnode is entered.
-use Rattle.std.specs.Prelude.{ℕ, zero, suc, ◌+◌, Bool, ℤ}
+-- A listing: a recursion on the levels left, and in each node on its entries.
+use Rattle.std.specs.Prelude.{zero, suc, ℕ, ◌+◌, Bool, true, false, List, [], ◌∷◌, Option, Some, None, Result, Ok, Err}
+use Rattle.directory.specs.Limits.{below_root}
 use Rattle.refusal.specs.declared.Refusal.{Refusal}
 use Rattle.refusal.specs.declared.Refusal.TheVariants.{TooManyLevels}
-use Rattle.refusal.specs.Part.{Part, absent, refused, present}
-use Rattle.index_node.specs.declared.Node.TheVariants.{Root}
-use Rattle.index_node.specs.declared.Viewed.{Viewed}
-use Rattle.index_node.specs.Memory.{Memory}
-use Rattle.index_node.specs.Node.{view_of}
-use Rattle.index.specs.Entries.{Entry, Entries, over, broken, last, next, entries_at}
-use Rattle.index.specs.Walk.{levels, Dir, dir_of, Opened, declined, opened, opening, unseen}
+use Rattle.index_entry.specs.Entry.{is_last}
+use Rattle.directory.specs.Lent.{Lent, Passed, EntryPlaced, NodeSeen}
+use Rattle.directory.specs.Directory.{passed, root_node, subnode}
+use Rattle.directory.specs.Node.{Entries, entries_of}
 
--- entries in order, each with the count of records opened when it is yielded; then how it ended, with its count
+-- the entries one after another, each with the records opened so far, and then the end or a refusal
 pub data Listing : Type 0 where
   done : ℕ → Listing
   stop : Refusal → ℕ → Listing
-  item : Entry → ℕ → Listing → Listing
+  item : EntryPlaced → ℕ → Listing → Listing
 
-unfoldable pub and_then : Listing → (ℕ → Listing) → Listing
-and_then (done o) rest = rest o
-and_then (stop r o) rest = stop r o
-and_then (item e o l) rest = item e o (and_then l rest)
+-- one listing, and where it ends, another
+abbrev pub and_then : Listing → (ℕ → Listing) → Listing
+and_then (done o) next = next o
+and_then (stop refusal o) next = stop refusal o
+and_then (item entry o rest) next = item entry o (and_then rest next)
 
--- a record counts when all its checks have passed
-abbrev pub list_opened : (below : Entries → ℕ → Listing) → Opened → ℕ → Listing
-list_opened below (declined r) o = stop r o
-list_opened below (opened number start es) o = below es (o + 1)
+-- an entry's subnode, if it has one; below: the listing of a node there
+abbrev pub list_subnode : (Entries → ℕ → Listing) → Result (Option NodeSeen) Refusal → ℕ → Listing
+list_subnode below (Ok (Some node)) o = below (entries_of node) (o + 1)
+list_subnode below (Ok None) o = done o
+list_subnode below (Err refusal) o = stop refusal o
 
-module _ (d : Dir) (spent : ℕ → Bool) where
-  abbrev pub list_sub : (left : ℕ) (below : Entries → ℕ → Listing) → Part ℤ → ℕ → Listing
-  list_sub left below absent o = done o
-  list_sub left below (refused r) o = stop r o
-  list_sub left below (present vcn) o = list_opened below (opening d left (spent o) unseen vcn) o
+-- a LAST_ENTRY is not listed, and nothing follows it
+abbrev pub list_entry : Bool → EntryPlaced → ℕ → Listing → Listing
+list_entry true entry o rest = done o
+list_entry false entry o rest = item entry o rest
 
-  unfoldable pub list_in : (left : ℕ) (below : Entries → ℕ → Listing) → Entries → ℕ → Listing
-  list_in left below over o = done o
-  list_in left below (broken r) o = stop r o
-  list_in left below (last e) o = list_sub left below e.sub o
-  list_in left below (next e es) o = and_then (list_sub left below e.sub o) (λ x. item e x (list_in left below es x))
+-- a node's entries: of each its subnode first, then the entry; sub: the listing of an entry's subnode
+abbrev pub list_node : (List ℕ → ℕ → Listing) → Entries → ℕ → Listing
+list_node sub [] o = done o
+list_node sub (Err refusal ∷ rest) o = stop refusal o
+list_node sub (Ok entry ∷ rest) o = and_then (sub entry.bytes o) (λ x. list_entry (is_last entry.bytes) entry x (list_node sub rest x))
 
-  -- so many levels, this one with them
-  unfoldable pub list : ℕ → Entries → ℕ → Listing
-  list zero es o = stop TooManyLevels o
-  list (suc left) es o = list_in left (list left) es o
+-- the entries of a node with so many levels left below it
+unfoldable pub list_below : Passed → (ℕ → Bool) → ℕ → Entries → ℕ → Listing
+list_below d spent zero entries o = list_node (λ entry x. list_subnode (λ es y. stop TooManyLevels y) (subnode d 0 (spent x) entry) x) entries o
+list_below d spent (suc left) entries o =
+    list_node (λ entry x. list_subnode (λ es y. list_below d spent left es y) (subnode d (suc left) (spent x) entry) x) entries o
 
--- 1 to 7, then the walk
-abbrev pub list_root : Memory → (spent : ℕ → Bool) → Viewed → Listing
-list_root m spent (Viewed.Refused r) = stop r 0
-list_root m spent (Viewed.Fine view) = list (dir_of m) spent levels (entries_at m Root view.start) 0
+abbrev pub list_in : (ℕ → Bool) → Result Passed Refusal → Listing
+list_in spent (Ok d) = list_below d spent below_root (entries_of (root_node d)) 0
+list_in spent (Err refusal) = stop refusal 0
 
-unfoldable pub listing : Memory → (spent : ℕ → Bool) → Listing
-listing m spent = list_root m spent (view_of m Root)
+-- the whole directory: 1 to 7, then the walk from the root
+unfoldable pub listing : Lent → (ℕ → Bool) → Listing
+listing d spent = list_in spent (passed d)

@@ -1,180 +1,180 @@
--- One step of a listing, for any cursor, any memory and any allowance.
-use Rattle.std.specs.Prelude.{ℕ, zero, suc, ◌+◌, ◌-◌, List, [], ◌∷◌, Bool, true, false, cond, ltb, ℤ, length, get_or, set, replicate}
+-- A step of a listing, for any cursor, any memory and any allowance.
+use Rattle.std.specs.Prelude.{zero, suc, ℕ, ◌+◌, ◌-◌, ◌*◌, nat_lt, Bool, true, false, List, [], ◌∷◌, length, if◌then◌else◌, Option, Some, None, Result, Ok, Err}
+use Rattle.directory.specs.Limits.{level_limit}
 use Rattle.refusal.specs.declared.Refusal.{Refusal}
-use Rattle.refusal.specs.declared.Refusal.TheVariants.{EntrySize, TooManyLevels}
-use Rattle.refusal.specs.Part.{Part, absent, refused, present}
-use Rattle.index_root.specs.declared.Judged.{Judged}
-use Rattle.index_node.specs.declared.Node.{Node}
-use Rattle.index_node.specs.declared.Node.TheVariants.{Root, Record}
-use Rattle.index_node.specs.declared.Viewed.{Viewed}
-use Rattle.index_node.specs.declared.Place.{Place}
-use Rattle.index_node.specs.Memory.{Memory}
-use Rattle.index_node.specs.Node.{view_of}
-use Rattle.index.specs.declared.Stage.{Stage}
-use Rattle.index.specs.declared.Stage.TheVariants.{Fresh, Going, Due, Ended}
-use Rattle.index.specs.declared.Level.{Level}
-use Rattle.index.specs.declared.Kept.{Kept}
-use Rattle.index.specs.declared.Kept.TheVariants.{Nothing, Given}
-use Rattle.index.specs.declared.Cursor.{Cursor}
-use Rattle.index.specs.declared.Answer.{Answer}
-use Rattle.index.specs.declared.Stepped.{Stepped}
-use Rattle.index.specs.Entries.{Entry, Look, past, bad, met, end_of, look_at, met_at}
-use Rattle.index.specs.Walk.{levels, dir_of, Opened, declined, opened, opening, unseen}
-use Rattle.index.specs.Listing.{Listing, done, stop, item}
+use Rattle.refusal.specs.declared.Refusal.TheVariants.{TooManyLevels}
+use Rattle.refusal.specs.Then.{◌>>=◌}
+use Rattle.index_entry.specs.Entry.{is_last}
+use Rattle.directory.specs.declared.place.Place.{Place}
+use Rattle.directory.specs.declared.place.Place.TheVariants as places
+use Rattle.directory.specs.Answer.{Answered, some, none, refused}
+use Rattle.directory.specs.Lent.{Lent, Passed, EntryPlaced, NodeSeen}
+use Rattle.directory.specs.Directory.{passed, root_node, subnode, again}
+use Rattle.directory.specs.Node.{entry_in, entries_at, first}
+use Rattle.index.specs.declared.cursor.NodeName.{NodeName}
+use Rattle.index.specs.declared.cursor.NodeName.TheVariants.{Root, Record}
+use Rattle.index.specs.declared.cursor.Stage.{Stage}
+use Rattle.index.specs.declared.cursor.Stage.TheVariants.{Fresh, Going, Due, Ended}
+use Rattle.index.specs.declared.cursor.Level.{Level}
+use Rattle.index.specs.declared.cursor.Cursor.{Cursor}
+use Rattle.index.specs.Cursor.{levels_of, cursor_of}
 
-abbrev pub level_of : Node → ℕ → Stage → Level
-level_of node next stage = record { node = node; next = next; stage = stage }
+-- what a turn comes to
+pub data Turn : Type 0 where
+  yields : EntryPlaced → ℕ → List Level → Turn
+  ends : ℕ → Turn
+  refuses : Refusal → ℕ → Turn
+  goes_on : List Level → ℕ → Turn
 
-abbrev pub blank : Level
-blank = level_of Root 0 Fresh
+abbrev pub level_at : NodeName → ℕ → Stage → Level
+level_at node next stage = record { node = node; next = next; stage = stage }
 
--- a cursor's levels as a list, the deepest first
-unfoldable pub frames : List Level → ℕ → List Level
-frames ls zero = []
-frames ls (suc d) = get_or ls d blank ∷ frames ls d
+-- the node that a level is in, as it now stands: 13 to 17 for a record
+unfoldable pub node_at : Passed → NodeName → Result NodeSeen Refusal
+node_at d Root = Ok (root_node d)
+node_at d (Record vcn) = again d vcn
 
--- the array of such a list: the root's level first, blank past the deepest
-unfoldable pub fill : List Level → List Level
-fill [] = replicate levels blank
-fill (l ∷ ls) = set (fill ls) (length ls) l
+-- by what a level keeps a node
+abbrev pub name_of : Place → NodeName
+name_of places.Root = Root
+name_of (places.Record number vcn) = Record vcn
 
-abbrev pub cursor_of : List Level → ℕ → Kept → Cursor
-cursor_of fs o kept = record { levels = fill fs; depth = length fs; opened = o; refusal = kept }
+-- an entry without a subnode: yielded; after a LAST_ENTRY the level is over
+abbrev pub passes : Bool → NodeName → ℕ → EntryPlaced → ℕ → List Level → Turn
+passes true node at entry o above = goes_on above o
+passes false node at entry o above = yields entry o (level_at node (at + length entry.bytes) Going ∷ above)
 
--- one level, the root, not begun
-abbrev pub new_cursor : Cursor
-new_cursor = cursor_of (blank ∷ []) 0 Nothing
+-- an entry whose subnode is entered: put off; after a LAST_ENTRY the level has ended
+abbrev pub put_off : Bool → NodeName → ℕ → List ℕ → Level
+put_off true node at entry = level_at node (at + length entry) Ended
+put_off false node at entry = level_at node (at + length entry) (Due at)
 
--- how the walk of a step comes out: an entry with the levels left behind, the end, or a refusal
-pub data Outcome : Type 0 where
-  yields : Place → ℕ → List Level → Outcome
-  ends : ℕ → Outcome
-  refuses : Refusal → ℕ → Outcome
+abbrev pub on_subnode : Result (Option NodeSeen) Refusal → NodeName → ℕ → EntryPlaced → ℕ → List Level → Turn
+on_subnode (Ok (Some below)) node at entry o above =
+    goes_on (level_at (name_of below.place) below.start Going ∷ put_off (is_last entry.bytes) node at entry.bytes ∷ above) (o + 1)
+on_subnode (Ok None) node at entry o above = passes (is_last entry.bytes) node at entry o above
+on_subnode (Err refusal) node at entry o above = refuses refusal o
 
--- an entry whose subnode is entered: put off; after a LAST_ENTRY the node has ended
-abbrev pub put_off : Bool → Place → Level
-put_off true p = level_of p.node (end_of p) Ended
-put_off false p = level_of p.node (end_of p) (Due p.at)
-
--- an entry whose subnode is done: yielded; after a LAST_ENTRY the walk goes on above
-abbrev pub close : Bool → Place → ℕ → List Level → (ℕ → Outcome) → Outcome
-close true p o ls up = up o
-close false p o ls up = yields p o (level_of p.node (end_of p) Going ∷ ls)
-
--- down opens a record and goes on in it; up goes on above
-abbrev pub enter : (down : ℤ → ℕ → List Level → (ℕ → Outcome) → Outcome) → Part ℤ → ℕ → List Level → (ℕ → Outcome) → Outcome
-enter down absent o ls up = up o
-enter down (refused r) o ls up = refuses r o
-enter down (present vcn) o ls up = down vcn o ls up
-
-abbrev pub visit : (down : ℤ → ℕ → List Level → (ℕ → Outcome) → Outcome) → Look → ℕ → List Level → (ℕ → Outcome) → Outcome
-visit down past o ls up = up o
-visit down (bad r) o ls up = refuses r o
-visit down (met e) o ls up =
-    enter down e.sub o (put_off e.final e.place ∷ ls) (λ x. close e.final e.place x ls up)
-
-abbrev pub go_down : Opened → ℕ → (ℕ → Outcome) → Outcome
-go_down (declined r) o into = refuses r o
-go_down (opened number start es) o into = into start
-
--- the record at a VCN, opened and gone down into, where so many levels are left
-unfoldable pub descend : Memory → (spent : ℕ → Bool) → ℕ → ℤ → ℕ → List Level → (ℕ → Outcome) → Outcome
-descend m spent zero vcn o ls up = go_down (opening (dir_of m) zero (spent o) unseen vcn) o (λ start. refuses TooManyLevels o)
-descend m spent (suc left) vcn o ls up =
-    go_down (opening (dir_of m) (suc left) (spent o) unseen vcn) o
-    (λ start. visit (λ w x fs u. descend m spent left w x fs u) (look_at m (Record vcn) start) (o + 1) ls up)
-
--- levels left below the deepest of ls and one more
+-- levels left below the deepest one, where so many stand above it
 abbrev pub left_below : List Level → ℕ
-left_below ls = levels - suc (length ls)
+left_below above = level_limit - (length above + 1)
 
-abbrev pub begin : Viewed → ℕ → (ℕ → Outcome) → Outcome
-begin (Viewed.Refused r) o from = refuses r o
-begin (Viewed.Fine view) o from = from view.start
+abbrev pub on_entry : Passed → (ℕ → Bool) → Result EntryPlaced Refusal → NodeName → ℕ → ℕ → List Level → Turn
+on_entry d spent (Ok entry) node at o above = on_subnode (subnode d (left_below above) (spent o) entry.bytes) node at entry o above
+on_entry d spent (Err refusal) node at o above = refuses refusal o
 
--- a due entry is yielded as it then stands; the node then goes on at its kept next start
-abbrev pub yield_due : Part Entry → Node → ℕ → ℕ → List Level → Outcome
-yield_due absent node next o ls = refuses EntrySize o
-yield_due (refused r) node next o ls = refuses r o
-yield_due (present e) node next o ls = yields e.place o (level_of node next Going ∷ ls)
+abbrev pub on_next : Passed → (ℕ → Bool) → Option (Result EntryPlaced Refusal) → NodeName → ℕ → ℕ → List Level → Turn
+on_next d spent (Some entry) node at o above = on_entry d spent entry node at o above
+on_next d spent None node at o above = goes_on above o
 
--- the deepest level goes on by its stage
-abbrev pub go_on : Memory → (spent : ℕ → Bool) → Stage → Node → ℕ → ℕ → List Level → (ℕ → Outcome) → Outcome
-go_on m spent Fresh node next o ls up =
-    begin (view_of m node) o (λ start. visit (descend m spent (left_below ls)) (look_at m node start) o ls up)
-go_on m spent Going node next o ls up = visit (descend m spent (left_below ls)) (look_at m node next) o ls up
-go_on m spent (Due at) node next o ls up = yield_due (met_at m node at) node next o ls
-go_on m spent Ended node next o ls up = up o
+-- an entry that was put off is yielded as it now stands; the node goes on at its kept next start
+abbrev pub on_due : Result EntryPlaced Refusal → NodeName → ℕ → ℕ → List Level → Turn
+on_due (Ok entry) node next o above = yields entry o (level_at node next Going ∷ above)
+on_due (Err refusal) node next o above = refuses refusal o
 
-unfoldable pub settle : Memory → (spent : ℕ → Bool) → List Level → ℕ → Outcome
-settle m spent [] o = ends o
-settle m spent (l ∷ ls) o = go_on m spent l.stage l.node l.next o ls (λ x. settle m spent ls x)
+abbrev pub by_stage : Passed → (ℕ → Bool) → Stage → NodeSeen → NodeName → ℕ → ℕ → List Level → Turn
+by_stage d spent Fresh its node next o above = goes_on (level_at node its.start Going ∷ above) o
+by_stage d spent Going its node next o above = on_next d spent (first (entries_at its next)) node next o above
+by_stage d spent (Due at) its node next o above = on_due (entry_in its at) node next o above
+by_stage d spent Ended its node next o above = goes_on above o
 
--- a level before a step: 13 to 17 (of the root 1 to 7), then 8 for an entry put off
-abbrev pub judged_view : Viewed → Judged
-judged_view (Viewed.Refused r) = Judged.Refused r
-judged_view (Viewed.Fine view) = Judged.Fine
+abbrev pub on_level : Passed → (ℕ → Bool) → Result NodeSeen Refusal → Level → ℕ → List Level → Turn
+on_level d spent (Ok its) level o above = by_stage d spent level.stage its level.node level.next o above
+on_level d spent (Err refusal) level o above = refuses refusal o
 
-abbrev pub judged_entry : Part Entry → Judged
-judged_entry absent = Judged.Refused EntrySize
-judged_entry (refused r) = Judged.Refused r
-judged_entry (present e) = Judged.Fine
+-- a turn: one look at the deepest level
+unfoldable pub turn : Passed → (ℕ → Bool) → List Level → ℕ → Turn
+turn d spent [] o = ends o
+turn d spent (level ∷ above) o = on_level d spent (node_at d level.node) level o above
 
-abbrev pub judge : Memory → Stage → Node → Judged
-judge m Fresh node = judged_view (view_of m node)
-judge m Going node = judged_view (view_of m node)
-judge m (Due at) node = judged_entry (met_at m node at)
-judge m Ended node = judged_view (view_of m node)
+-- how many turns a level can take before something is yielded, where so many levels are left below it
+abbrev pub weight_of : Stage → ℕ → ℕ
+weight_of Fresh left = 2 * left + 3
+weight_of Going left = 2 * left + 2
+weight_of (Due at) left = 1
+weight_of Ended left = 1
 
-abbrev pub both : Judged → Judged → Judged
-both (Judged.Refused r) j = Judged.Refused r
-both Judged.Fine j = j
+unfoldable pub weight : List Level → ℕ
+weight [] = 0
+weight (level ∷ above) = weight_of level.stage (left_below above) + weight above
+
+-- how a walk comes out, and the levels then: none after the end and after a refusal
+pub record Outcome : Type 0 where
+  pub answer : Answered
+  pub levels : List Level
+
+abbrev pub comes_out : Answered → List Level → Outcome
+comes_out answer levels = record { answer = answer; levels = levels }
+
+-- turns, one after another
+abbrev pub then_turns : (List Level → ℕ → Outcome) → Turn → Outcome
+then_turns more (yields entry o levels) = comes_out (some entry o) levels
+then_turns more (ends o) = comes_out (none o) []
+then_turns more (refuses refusal o) = comes_out (refused refusal o) []
+then_turns more (goes_on levels o) = more levels o
+
+unfoldable pub turns : ℕ → Passed → (ℕ → Bool) → List Level → ℕ → Outcome
+turns zero d spent levels o = comes_out (none o) []
+turns (suc most) d spent levels o = then_turns (λ ls x. turns most d spent ls x) (turn d spent levels o)
+
+-- turns until something is yielded, refused, or all is listed
+unfoldable pub walk : Passed → (ℕ → Bool) → List Level → ℕ → Outcome
+walk d spent levels o = turns (suc (weight levels)) d spent levels o
+
+-- a level before a step: its node, then 8 for an entry put off
+abbrev pub judge_stage : Stage → NodeSeen → Result (Unit {0}) Refusal
+judge_stage Fresh its = Ok tt
+judge_stage Going its = Ok tt
+judge_stage (Due at) its = entry_in its at >>= λ entry. Ok tt
+judge_stage Ended its = Ok tt
+
+unfoldable pub judge : Passed → Level → Result (Unit {0}) Refusal
+judge d level = node_at d level.node >>= λ its. judge_stage level.stage its
 
 -- all levels, from the root down
-unfoldable pub judge_all : Memory → List Level → Judged
-judge_all m [] = Judged.Fine
-judge_all m (l ∷ ls) = both (judge_all m ls) (judge m l.stage l.node)
+unfoldable pub judge_all : Passed → List Level → Result (Unit {0}) Refusal
+judge_all d [] = Ok tt
+judge_all d (level ∷ above) = judge_all d above >>= λ fine. judge d level
 
--- the checks of a step in their order: 1 to 7, 11 for more than 8 levels, then each level
-unfoldable pub checks : Memory → ℕ → List Level → Judged
-checks m depth fs =
-    both (judged_view (view_of m Root)) (cond (ltb levels depth) (Judged.Refused TooManyLevels) (judge_all m fs))
+-- before a step: 1 to 7, 11 for more levels than there may be, then each level
+unfoldable pub checked : Lent → Cursor → Result Passed Refusal
+checked lent cursor =
+    passed lent >>= λ d.
+    (if nat_lt level_limit cursor.depth then Err TooManyLevels else judge_all d (levels_of cursor)) >>= λ fine.
+    Ok d
 
-abbrev pub says : Answer → Cursor → Stepped
-says answer cursor = record { answer = answer; cursor = cursor }
+abbrev pub walk_in : (ℕ → Bool) → Result Passed Refusal → List Level → ℕ → Outcome
+walk_in spent (Ok d) levels o = walk d spent levels o
+walk_in spent (Err refusal) levels o = comes_out (refused refusal o) []
 
--- after the end and after a refusal no level is left
-abbrev pub told : Outcome → Stepped
-told (yields p o fs) = says (Answer.Entry p o) (cursor_of fs o Nothing)
-told (ends o) = says (Answer.End o) (cursor_of [] o Nothing)
-told (refuses r o) = says (Answer.Refused r o) (cursor_of [] o (Given r))
+-- what a step answers, and the cursor then
+pub record StepTaken : Type 0 where
+  pub answer : Answered
+  pub cursor : Cursor
 
-abbrev pub settled : Memory → (spent : ℕ → Bool) → Judged → List Level → ℕ → Outcome
-settled m spent (Judged.Refused r) fs o = refuses r o
-settled m spent Judged.Fine fs o = settle m spent fs o
+abbrev pub count_in : Answered → ℕ
+count_in (Ok told) = told.opened
+count_in (Err fault) = fault.opened
+
+abbrev pub kept_from : Answered → Option Refusal
+kept_from (Ok told) = None
+kept_from (Err fault) = Some fault.refusal
+
+abbrev pub walked : Outcome → StepTaken
+walked its = record { answer = its.answer; cursor = cursor_of its.levels (count_in its.answer) (kept_from its.answer) }
+
+abbrev pub stand : Answered → Cursor → StepTaken
+stand answer cursor = record { answer = answer; cursor = cursor }
 
 -- with no level left a step says "end", before any check
-abbrev pub on_depth : Memory → (spent : ℕ → Bool) → ℕ → Cursor → Stepped
-on_depth m spent zero c = says (Answer.End c.opened) c
-on_depth m spent (suc d) c =
-    told (settled m spent (checks m (suc d) (frames c.levels (suc d))) (frames c.levels (suc d)) c.opened)
+abbrev pub on_depth : Lent → (ℕ → Bool) → ℕ → Cursor → StepTaken
+on_depth lent spent zero cursor = stand (none cursor.opened) cursor
+on_depth lent spent (suc above) cursor = walked (walk_in spent (checked lent cursor) (levels_of cursor) cursor.opened)
 
 -- a step after a refusal repeats it before any check and changes nothing
-abbrev pub on_kept : Memory → (spent : ℕ → Bool) → Kept → Cursor → Stepped
-on_kept m spent (Given r) c = says (Answer.Refused r c.opened) c
-on_kept m spent Nothing c = on_depth m spent c.depth c
+abbrev pub on_kept : Lent → (ℕ → Bool) → Option Refusal → Cursor → StepTaken
+on_kept lent spent (Some refusal) cursor = stand (refused refusal cursor.opened) cursor
+on_kept lent spent None cursor = on_depth lent spent cursor.depth cursor
 
-unfoldable pub step_of : Memory → (spent : ℕ → Bool) → Cursor → Stepped
-step_of m spent c = on_kept m spent c.refusal c
-
--- the answer of the step after k others
-unfoldable pub answer_at : Memory → (spent : ℕ → Bool) → ℕ → Cursor → Answer
-answer_at m spent zero c = (step_of m spent c).answer
-answer_at m spent (suc k) c = answer_at m spent k (step_of m spent c).cursor
-
--- what a listing says at k: its items one after another, then its ending for ever
-unfoldable pub say_at : Listing → ℕ → Answer
-say_at (done o) k = Answer.End o
-say_at (stop r o) k = Answer.Refused r o
-say_at (item e o l) zero = Answer.Entry e.place o
-say_at (item e o l) (suc k) = say_at l k
+unfoldable pub step : Lent → (ℕ → Bool) → Cursor → StepTaken
+step lent spent cursor = on_kept lent spent cursor.refusal cursor

@@ -1,69 +1,56 @@
--- Lookup: in each node, equal key: found; name greater: next entry; name less, or no key: this entry's subnode, or not found.
-use Rattle.std.specs.Prelude.{ℕ, zero, suc, ◌+◌, Bool, cond, List, ltb, eqb, ℤ, length}
-use Rattle.refusal.specs.declared.Refusal.TheVariants.{TooManyLevels, TableLength, NameTooLong}
-use Rattle.refusal.specs.Part.{Part, absent, refused, present}
-use Rattle.ordering.specs.declared.Ordering.{Ordering}
-use Rattle.ordering.specs.declared.Ordering.TheVariants.{Less, Equal, Greater}
-use Rattle.upcase_table.specs.Names.{table_units}
-use Rattle.index_node.specs.declared.Node.TheVariants.{Root}
-use Rattle.index_node.specs.declared.Viewed.{Viewed}
-use Rattle.index_node.specs.Memory.{Memory}
-use Rattle.index_node.specs.Node.{view_of}
-use Rattle.index.specs.Entries.{Entry, Entries, over, broken, last, next, entries_at}
-use Rattle.index.specs.Walk.{levels, Dir, dir_of, Opened, declined, opened, opening, unseen}
-use Rattle.index_finder.specs.declared.Finding.{Finding}
-use Rattle.index_finder.specs.declared.Finding.TheVariants.{Found, NotFound, Refused}
-use Rattle.index_finder.specs.Kind.{Kind, key_read, file_names}
+-- Looking a name up: a recursion on the levels left, and in each node on its entries.
+use Rattle.std.specs.Prelude.{zero, suc, ℕ, ◌+◌, Bool, List, [], ◌∷◌, Option, Some, None, Result, Ok, Err}
+use Rattle.std.specs.declared.cmp.Ordering.{Ordering}
+use Rattle.std.specs.declared.cmp.Ordering.TheVariants.{Less, Equal, Greater}
+use Rattle.refusal.specs.declared.Refusal.{Refusal}
+use Rattle.refusal.specs.declared.Refusal.TheVariants.{TooManyLevels}
+use Rattle.index_entry.specs.Entry.{key_of}
+use Rattle.directory.specs.Answer.{Answered, some, none, refused}
+use Rattle.directory.specs.Lent.{Lent, Passed, EntryPlaced, NodeSeen}
+use Rattle.directory.specs.Limits.{below_root}
+use Rattle.directory.specs.Directory.{passed, root_node, subnode}
+use Rattle.directory.specs.Node.{Entries, entries_of}
+use Rattle.collation.specs.Kind.{Kind, name_to_key}
 
--- a record counts when all its checks have passed
-abbrev pub find_opened : (below : Entries → ℕ → Finding) → Opened → ℕ → Finding
-find_opened below (declined r) o = Refused r o
-find_opened below (opened number start es) o = below es (o + 1)
+-- how the sought name stands to an entry's key; one without a key is after all names
+abbrev pub stands_to : {K : Type 0} → Kind K → K → Result (Option (List ℕ)) Refusal → Result Ordering Refusal
+stands_to kind sought (Ok (Some key)) = name_to_key kind sought key
+stands_to kind sought (Ok None) = Ok Less
+stands_to kind sought (Err refusal) = Err refusal
 
--- what the order of the sought key and an entry's says: equal, found at once
-abbrev pub find_ordered : (e : Entry) (o : ℕ) (down on : Finding) → Ordering → Finding
-find_ordered e o down on Less = down
-find_ordered e o down on Equal = Found e.place o
-find_ordered e o down on Greater = on
+unfoldable pub stands : {K : Type 0} → Kind K → K → List ℕ → Result Ordering Refusal
+stands kind sought entry = stands_to kind sought (key_of entry)
 
-module _ {K : Type 0} (kind : Kind K) (sought : K) (d : Dir) (spent : ℕ → Bool) where
-  abbrev pub find_sub : (left : ℕ) (below : Entries → ℕ → Finding) → Part ℤ → ℕ → Finding
-  find_sub left below absent o = NotFound o
-  find_sub left below (refused r) o = Refused r o
-  find_sub left below (present vcn) o = find_opened below (opening d left (spent o) unseen vcn) o
+-- equal: found; greater: the next entry; less, or no key: the subnode
+abbrev pub choose : Result Ordering Refusal → EntryPlaced → ℕ → (next down : Answered) → Answered
+choose (Ok Equal) entry o next down = some entry o
+choose (Ok Greater) entry o next down = next
+choose (Ok Less) entry o next down = down
+choose (Err refusal) entry o next down = refused refusal o
 
-  -- 9 and 18 when a key is read, before it is compared
-  abbrev pub find_key : (e : Entry) (o : ℕ) (down on : Finding) → Part K → Finding
-  find_key e o down on absent = down
-  find_key e o down on (refused r) = Refused r o
-  find_key e o down on (present k) = find_ordered e o down on (kind.compare sought k)
+-- a node's entries; its: how the sought name stands to an entry; down: what the subnode of an entry answers
+abbrev pub find_node : (List ℕ → Result Ordering Refusal) → (List ℕ → ℕ → Answered) → Entries → ℕ → Answered
+find_node its down [] o = none o
+find_node its down (Err refusal ∷ rest) o = refused refusal o
+find_node its down (Ok entry ∷ rest) o = choose (its entry.bytes) entry o (find_node its down rest o) (down entry.bytes o)
 
-  -- a node that runs out is not found; a LAST_ENTRY has no key
-  unfoldable pub find_in : (left : ℕ) (below : Entries → ℕ → Finding) → Entries → ℕ → Finding
-  find_in left below over o = NotFound o
-  find_in left below (broken r) o = Refused r o
-  find_in left below (last e) o = find_sub left below e.sub o
-  find_in left below (next e es) o = find_key e o (find_sub left below e.sub o) (find_in left below es o) (key_read kind e.key)
+-- an entry's subnode, if it has one; below: what a node answers there
+abbrev pub into : (Entries → ℕ → Answered) → Result (Option NodeSeen) Refusal → ℕ → Answered
+into below (Ok (Some node)) o = below (entries_of node) (o + 1)
+into below (Ok None) o = none o
+into below (Err refusal) o = refused refusal o
 
-  -- so many levels, this one with them
-  unfoldable pub find : ℕ → Entries → ℕ → Finding
-  find zero es o = Refused TooManyLevels o
-  find (suc left) es o = find_in left (find left) es o
+-- the entries of a node with so many levels left below it
+unfoldable pub find_below : {K : Type 0} → Passed → (ℕ → Bool) → Kind K → K → ℕ → Entries → ℕ → Answered
+find_below d spent kind sought zero entries o =
+    find_node (stands kind sought) (λ entry x. into (λ es y. refused TooManyLevels y) (subnode d 0 (spent x) entry) x) entries o
+find_below d spent kind sought (suc left) entries o =
+    find_node (stands kind sought) (λ entry x. into (λ es y. find_below d spent kind sought left es y) (subnode d (suc left) (spent x) entry) x) entries o
 
--- 1 to 7, then the walk
-abbrev pub find_root : {K : Type 0} → Kind K → K → Memory → (spent : ℕ → Bool) → Viewed → Finding
-find_root kind sought m spent (Viewed.Refused r) = Refused r 0
-find_root kind sought m spent (Viewed.Fine view) = find kind sought (dir_of m) spent levels (entries_at m Root view.start) 0
+abbrev pub find_in : {K : Type 0} → (ℕ → Bool) → Kind K → K → Result Passed Refusal → Answered
+find_in spent kind sought (Ok d) = find_below d spent kind sought below_root (entries_of (root_node d)) 0
+find_in spent kind sought (Err refusal) = refused refusal 0
 
-unfoldable pub finding : {K : Type 0} → Kind K → K → Memory → (spent : ℕ → Bool) → Finding
-finding kind sought m spent = find_root kind sought m spent (view_of m Root)
-
-abbrev pub most_units : ℕ
-most_units = 255
-
--- lookup of a file name: 19, 20, 1 to 7, then its walk
-unfoldable pub lookup : (table name : List ℕ) → Memory → (spent : ℕ → Bool) → Finding
-lookup table name m spent =
-    cond (eqb (length table) table_units)
-    (cond (ltb most_units (length name)) (Refused NameTooLong 0) (finding (file_names table) name m spent))
-    (Refused TableLength 0)
+-- 1 to 7, then the walk from the root
+unfoldable pub find : {K : Type 0} → Lent → (ℕ → Bool) → Kind K → K → Answered
+find d spent kind sought = find_in spent kind sought (passed d)

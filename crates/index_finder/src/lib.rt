@@ -1,195 +1,116 @@
-// Lookup of a key in a directory: NtfsIndexFinder of src/index.rs.
+//! Looking a name up, down from the root.
 #![tactic(auto)]
 
-ghost use Rattle.std.specs.Prelude.{◌≡◌, length};
-ghost use Rattle.refusal.specs.Part.{present};
-ghost use Rattle.upcase_table.specs.Names.{table_units};
-ghost use Rattle.index_entry.specs.Entry.{key_of, subnode_of, subnode_says};
-ghost use Rattle.index_node.specs.declared.Viewed.TheVariants as Viewed;
-ghost use Rattle.index_node.specs.Memory.{memory};
-ghost use Rattle.index_node.specs.Node.{view_of};
-ghost use Rattle.index.specs.Entries.{look_in};
-ghost use Rattle.index.specs.Walk.{allow};
-ghost use Rattle.index_finder.specs.Kind.{key_read, file_names};
-ghost use Rattle.index_finder.specs.Find.{finding, lookup};
-ghost use Rattle.index_finder.specs.Visit.{against_of, below, visit_of};
+ghost use Rattle.std.specs.Prelude.{◌≡◌};
+ghost use Rattle.directory.specs.Directory.{spent_at};
+ghost use Rattle.directory.specs.Limits.{below_root};
+ghost use Rattle.directory.specs.Node.{entries_of};
+ghost use Rattle.directory.specs.Seen.{lent, directory_seen, node_seen, told, answer_seen};
+ghost use Rattle.index_entry.specs.IndexEntry.{entry_bytes};
+ghost use Rattle.index_finder.specs.Allowance.{MoreChangesNothing};
+ghost use Rattle.index_finder.specs.FileNames.{find_file_name};
+ghost use Rattle.index_finder.specs.Find.{stands, find, find_below};
 
-use file_name::FileName;
-use index_entry::{KeyPart, Subnode};
-use index_node::{Node, Place, View, Viewed};
-use ordering::Ordering;
-use refusal::Refusal;
-use upcase_table::Compared;
+use collation::{Collation, FileNames, SoughtName};
+use directory::{Answer, Directory, LEVELS, Node, OpenDirectory, PlacedEntry};
+use index_entry::IndexEntry;
+use refusal::{Fault, Refusal};
+use std::cmp::Ordering;
+use upcase_table::UpcaseTable;
 
-const UPCASE_CHARACTER_COUNT: usize = 65536;
-
-const LONGEST_NAME: usize = 255;
-
-const LEVELS_BELOW_ROOT: usize = 7;
-
-// What a lookup answers, each with the count of records opened.
-#[derive(Clone, Copy)]
-pub enum Finding {
-    Found { place: Place, opened: u64 },
-    NotFound(u64),
-    Refused { refusal: Refusal, opened: u64 },
-}
-
-// The sought name against an entry's key.
-#[derive(Clone, Copy)]
-enum Against {
-    NoKey,
-    Ordered(Ordering),
-    Refused(Refusal),
-}
-
-// What an entry says to a lookup: where to go on, or the answer.
-#[derive(Clone, Copy)]
-enum Visit {
-    Found(Place),
-    Onward(usize),
-    Down(i64),
-    NotFound,
-    Refused(Refusal),
-}
-
-// A key is read, 18 otherwise, before it is compared.
-#[tactic(auto, using(crate::proofs::Told::order_told, crate::proofs::Told::order_given))]
-fn compare_name(table: &[u16], name: &[u16], key: &[u8]) -> Against
-    requires { length table.now ≡ table_units }
-    ensures { result ≡ against_of (file_names table.now) name.now (key_read (file_names table.now) (present key.now)) }
+#[tactic(auto, unfolding(crate::specs::Find::stands))]
+/// How the sought name stands to an entry. One without a key is after all names.
+fn stands<C: Collation>(
+    collation: &C,
+    sought: C::Sought,
+    entry: &IndexEntry,
+) -> Result<Ordering, Refusal>
+    ensures { result ≡ stands (C.kind collation.now) (C.name sought) (entry_bytes entry.now) }
 {
-    match file_name::read_file_name(key) {
-        FileName::Refused(_) => Against::Refused(Refusal::KeyUnreadable),
-        FileName::Name {
-            namespace: _,
-            units: _,
-        } => match upcase_table::upcase_cmp(table, name, file_name::name(key)) {
-            Compared::Ordered(o) => Against::Ordered(o),
-            Compared::Refused(r) => Against::Refused(r),
-        },
-    }
+    let Some(key) = entry.key()? else {
+        return Ok(Ordering::Less);
+    };
+    collation.compare_sought(sought, key)
 }
 
-fn compare_key(table: &[u16], name: &[u16], entry: &[u8]) -> Against
-    requires { length table.now ≡ table_units }
-    ensures { result ≡ against_of (file_names table.now) name.now (key_read (file_names table.now) (key_of entry.now)) }
+/// Looks in a node and below it, down to the last level.
+#[tactic(auto, using(crate::proofs::Laws::of_find))]
+fn find_below<'a, C: Collation>(
+    directory: &OpenDirectory<'a>,
+    collation: &C,
+    sought: C::Sought,
+    allowance: u64,
+    top: Node<'a>,
+    opened: &mut u64,
+) -> Result<Option<PlacedEntry<'a>>, Refusal>
+    ensures { told result opened.new
+        ≡ find_below (directory_seen directory.now) (spent_at allowance) (C.kind collation.now) (C.name sought)
+        below_root (entries_of (node_seen top.entry)) opened.old }
 {
-    match index_entry::key(entry) {
-        KeyPart::Absent => Against::NoKey,
-        KeyPart::Refused(r) => Against::Refused(r),
-        KeyPart::Present => compare_name(table, name, index_entry::key_bytes(entry)),
-    }
-}
-
-// Name less, or no key: this entry's subnode, or "not found" if it has none.
-fn go_below(entry: &[u8]) -> Visit
-    ensures { result ≡ below (subnode_says (subnode_of entry.now)) }
-{
-    match index_entry::subnode_vcn(entry) {
-        Subnode::Absent => Visit::NotFound,
-        Subnode::Refused(r) => Visit::Refused(r),
-        Subnode::Vcn(vcn) => Visit::Down(vcn),
-    }
-}
-
-// Equal key: found; name greater: next entry; name less, or no key: below.
-fn visit_entry(table: &[u16], name: &[u16], bytes: &[u8], view: View, at: usize) -> Visit
-    requires { length table.now ≡ table_units }
-    ensures { result ≡ visit_of (file_names table.now) name.now (look_in bytes.now view at) }
-{
-    match index_node::next_entry(bytes, view, at) {
-        index_node::Next::Over => Visit::NotFound,
-        index_node::Next::Refused(r) => Visit::Refused(r),
-        index_node::Next::Entry(place) => {
-            let entry = index_entry::entry_bytes(bytes, at);
-            let next = at + place.size;
-            match compare_key(table, name, entry) {
-                Against::Refused(r) => Visit::Refused(r),
-                Against::NoKey => go_below(entry),
-                Against::Ordered(order) => match order {
-                    Ordering::Less => go_below(entry),
-                    Ordering::Equal => Visit::Found(place),
-                    Ordering::Greater => Visit::Onward(next),
-                },
+    let mut node = top;
+    let mut left = LEVELS - 1;
+    'levels: loop {
+        for entry in node.entries() {
+            let placed = entry?;
+            match stands(collation, sought, &placed.entry)? {
+                Ordering::Equal => return Ok(Some(placed)),
+                Ordering::Greater => continue,
+                Ordering::Less => {}
             }
+            let Some(below) = directory.open_below(left, *opened >= allowance, &placed.entry)?
+            else {
+                return Ok(None);
+            };
+            node = below;
+            *opened += 1;
+            left -= 1;
+            continue 'levels;
         }
+        return Ok(None);
     }
 }
 
-// The walk from the root down: the outer loop over levels, the inner over a node's entries.
-fn descend<'a>(
-    root: &'a [u8],
-    pool: &'a [u8],
-    cluster: usize,
+#[tactic(auto, unfolding(crate::specs::Find::find))]
+/// Looks a name up: 1 to 7, then the walk.
+pub fn find<'a, C: Collation>(
+    directory: &Directory<'a>,
+    collation: &C,
+    sought: C::Sought,
+    allowance: u64,
+) -> Result<Answer<'a>, Fault>
+    ensures { answer_seen result ≡ find (lent directory.now) (spent_at allowance) (C.kind collation.now) (C.name sought) }
+{
+    let mut opened = 0;
+    let directory = match directory.open() {
+        Ok(directory) => directory,
+        Err(refusal) => return Err(Fault { refusal, opened }),
+    };
+    let root = directory.root_node();
+    let found = find_below(&directory, collation, sought, allowance, root, &mut opened);
+    Answer::told(found, opened)
+}
+
+#[tactic(auto, unfolding(crate::specs::FileNames::find_file_name))]
+/// Looks a file name up, in the order of a lent upcase table: 19, 20, 1 to 7, then the walk.
+pub fn find_file_name<'a>(
+    directory: &Directory<'a>,
     table: &[u16],
     name: &[u16],
     allowance: u64,
-    view: View,
-) -> Finding
-    requires { (length table.now ≡ table_units) × (view_of (memory root.now pool.now cluster) Node.Root ≡ Viewed.Fine view) }
-    ensures { result ≡ finding (file_names table.now) name.now (memory root.now pool.now cluster) (allow allowance) }
+) -> Result<Answer<'a>, Fault>
+    ensures { answer_seen result ≡ find_file_name (lent directory.now) (spent_at allowance) table.now name.now }
 {
-    let mut node = view;
-    let mut left = LEVELS_BELOW_ROOT;
-    let mut opened: u64 = 0;
-    'descend: loop {
-        let bytes = index_node::node_bytes(root, pool, node);
-        let mut at = node.start;
-        loop {
-            match visit_entry(table, name, bytes, node, at) {
-                Visit::Found(place) => break 'descend Finding::Found { place, opened },
-                Visit::Onward(next) => {
-                    at = next;
-                }
-                Visit::NotFound => break 'descend Finding::NotFound(opened),
-                Visit::Refused(refusal) => {
-                    break 'descend Finding::Refused { refusal, opened };
-                }
-                Visit::Down(vcn) => {
-                    match index::open_record(root, pool, cluster, allowance, opened, left, vcn) {
-                        Viewed::Refused(refusal) => {
-                            break 'descend Finding::Refused { refusal, opened };
-                        }
-                        Viewed::Fine(below) => {
-                            node = below;
-                            left -= 1;
-                            opened += 1;
-                            continue 'descend;
-                        }
-                    }
-                }
-            }
-        }
+    let table = match UpcaseTable::try_from(table) {
+        Ok(table) => table,
+        Err(refusal) => return Err(Fault { refusal, opened: 0 }),
+    };
+    match SoughtName::try_from(name) {
+        Ok(sought) => find(directory, &FileNames { table: &table }, sought, allowance),
+        Err(refusal) => Err(Fault { refusal, opened: 0 }),
     }
 }
 
-// Lookup of a file name: 19, 20, 1 to 7, then its walk.
-#[tactic(auto, unfolding(crate::specs::Find::lookup, crate::specs::Find::finding))]
-pub fn find<'a>(
-    root: &'a [u8],
-    pool: &'a [u8],
-    cluster: usize,
-    table: &[u16],
-    name: &[u16],
-    allowance: u64,
-) -> Finding
-    ensures { result ≡ lookup table.now name.now (memory root.now pool.now cluster) (allow allowance) }
-{
-    if table.len() != UPCASE_CHARACTER_COUNT {
-        return Finding::Refused {
-            refusal: Refusal::TableLength,
-            opened: 0,
-        };
-    }
-    if LONGEST_NAME < name.len() {
-        return Finding::Refused {
-            refusal: Refusal::NameTooLong,
-            opened: 0,
-        };
-    }
-    match index_node::open_node(root, pool, cluster, Node::Root) {
-        Viewed::Refused(refusal) => Finding::Refused { refusal, opened: 0 },
-        Viewed::Fine(view) => descend(root, pool, cluster, table, name, allowance, view),
-    }
-}
+/// An answer other than 12 is the same under any larger allowance, whatever the keys are.
+pub fn more_changes_nothing<K>()
+    ensures { MoreChangesNothing K }
+{}

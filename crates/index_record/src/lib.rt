@@ -1,54 +1,55 @@
-// A record of an index: src/index_record.rs, without fixup.
+//! A record of an index, "INDX", its update sequence undone before: one node.
 #![tactic(auto)]
 
-ghost use Rattle.std.specs.Prelude.{◌≡◌, ◌<◌};
-ghost use Rattle.index_record.specs.Record.{same_vcn, record_of};
+ghost use Rattle.std.specs.Prelude.{◌≡◌, ◌≤◌, length};
+ghost use Rattle.index_record.specs.Record.{record_of};
 
 use refusal::Refusal;
 
-const INDEX_RECORD_HEADER_SIZE: usize = 24;
+/// Where the node header stands: its offsets count from there.
+const NODE_HEADER: usize = 24;
 
-const INDX: u32 = 0x58444E49;
+/// "INDX".
+const SIGNATURE: u32 = 0x58444e49;
 
-// Where a record's entries start and end, or 14 to 17.
-#[derive(Clone, Copy)]
-pub enum RecordRead {
-    Record { start: usize, used: usize },
-    Refused(Refusal),
-}
-
-// A u32 as a usize: the sums over it are made in 64 bits.
-fn wide(x: u32) -> usize
-    ensures { (result ≡ x) × (result < 4294967296) }
-{
-    x as usize
-}
-
-fn is_same(a: i64, b: i64) -> bool
-    ensures { result ≡ same_vcn a b }
-{
-    a == b
+/// A record that was seen: its used end is within its bytes.
+#[derive(Clone, Copy, Debug, PartialEq, Eq)]
+pub struct IndexRecord<'a> {
+    /// The whole record.
+    pub bytes: &'a [u8],
+    /// Where its entries start: maybe past all that it has.
+    pub start: usize,
+    /// Its used end.
+    pub end: usize,
+    ghost end_within: { end ≤ length bytes.now },
 }
 
 #[tactic(auto, unfolding(crate::specs::Record::record_of))]
-pub fn read_record(bytes: &[u8], wanted: i64) -> RecordRead
-    ensures { result ≡ record_of bytes.now wanted }
-{
-    if le::le32(bytes, 0) != INDX {
-        return RecordRead::Refused(Refusal::Signature);
+impl<'a> IndexRecord<'a> {
+    ghost use Rattle.index_record.specs.IndexRecord.{record_seen, read};
+
+    /// Reads a record that is to be the one of a VCN: 14 to 17.
+    pub fn new(bytes: &'a [u8], vcn: i64) -> Result<IndexRecord<'a>, Refusal>
+        ensures { read result ≡ record_of bytes.now vcn }
+    {
+        if le::le32(bytes, 0) != SIGNATURE {
+            return Err(Refusal::Signature);
+        }
+        let allocated_size = le::le32(bytes, 32) as usize;
+        if bytes.len() < NODE_HEADER + allocated_size {
+            return Err(Refusal::AllocatedSize);
+        }
+        let index_size = le::le32(bytes, 28) as usize;
+        if allocated_size < index_size {
+            return Err(Refusal::IndexSize);
+        }
+        if le::signed_le64(bytes, 16) != vcn {
+            return Err(Refusal::OwnVcn);
+        }
+        Ok(IndexRecord {
+            bytes,
+            start: NODE_HEADER + le::le32(bytes, 24) as usize,
+            end: NODE_HEADER + index_size,
+        })
     }
-    let allocated = wide(le::le32(bytes, 32));
-    if bytes.len() < INDEX_RECORD_HEADER_SIZE + allocated {
-        return RecordRead::Refused(Refusal::AllocatedSize);
-    }
-    let size = wide(le::le32(bytes, 28));
-    if allocated < size {
-        return RecordRead::Refused(Refusal::IndexSize);
-    }
-    if is_same(le::signed_le64(bytes, 16), wanted) {
-        let start = INDEX_RECORD_HEADER_SIZE + wide(le::le32(bytes, 24));
-        let used = INDEX_RECORD_HEADER_SIZE + size;
-        return RecordRead::Record { start, used };
-    }
-    RecordRead::Refused(Refusal::OwnVcn)
 }

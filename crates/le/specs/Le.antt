@@ -1,23 +1,20 @@
--- Little-endian numbers: one definition over the number of bytes, and the signed reading of 64 bits.
-use Rattle.std.specs.Prelude.{ℕ, zero, suc, ◌+◌, ◌*◌, ◌-◌, ◌^◌, List, Bool, true, false, cond, length, get_or, ltb, leb, ℤ, pos, negsuc}
+-- Little-endian numbers in bytes.
+use Rattle.std.specs.Prelude.{zero, suc, ℕ, ℤ, ◌+◌, ◌*◌, nat_le, List, length, slice_index, if◌then◌else◌}
+use Rattle.std.specs.Int.{cast_signed, w64}
 
--- the n bytes of s from at, the lowest first
-unfoldable pub bytes_at : ℕ → List ℕ → ℕ → ℕ
-bytes_at zero s at = 0
-bytes_at (suc n) s at = get_or s at 0 + 256 * bytes_at n s (at + 1)
+-- the number whose `count` bytes begin at `at`, the lowest first
+abbrev pub bytes_at : ℕ → List ℕ → ℕ → ℕ
+bytes_at zero bytes at = 0
+bytes_at (suc count) bytes at = slice_index bytes at + 256 * bytes_at count bytes (at + 1)
 
--- the number of n bytes at at; one that does not lie in s, first byte to last, is 0
-unfoldable pub le_at : ℕ → List ℕ → ℕ → ℕ
-le_at n s at = cond (leb (at + n) (length s)) (bytes_at n s at) 0
+-- the number of `count` bytes at `at`; one that does not lie in the bytes, first to last, is 0
+abbrev pub le_at : ℕ → List ℕ → ℕ → ℕ
+le_at count bytes at = if nat_le (at + count) (length bytes) then bytes_at count bytes at else 0
 
-abbrev pub pick_ℤ : Bool → ℤ → ℤ → ℤ
-pick_ℤ true a b = a
-pick_ℤ false a b = b
-
--- 64 bits in two's complement: negsuc k is -(k + 1), so the second case is n - 2 ^ 64
+-- 64 bits in two's complement
 abbrev pub signed64 : ℕ → ℤ
-signed64 n = pick_ℤ (ltb n (2 ^ 63)) (pos n) (negsuc (2 ^ 64 - suc n))
+signed64 number = cast_signed w64 number
 
--- the signed number of 8 bytes at at
+-- the signed number of 64 bits at `at`
 unfoldable pub signed_at : List ℕ → ℕ → ℤ
-signed_at s at = signed64 (le_at 8 s at)
+signed_at bytes at = signed64 (le_at 8 bytes at)

@@ -1,61 +1,80 @@
-// Prints the names of a directory, one a line: what a caller of the listing has to write.
-// Standard input: the root's length u32, the root, the pool; clusters of 512 bytes.
+//! Prints the names of a directory, one a line: what a caller of the listing has to write.
+//! Standard input: the root's length u32, the root, the pool; clusters of 512 bytes.
 #![tactic(auto)]
 
-ghost use Rattle.std.specs.Prelude.{◌<◌};
+use directory::{Answer, Directory};
+use file_name::FileName;
+use index::Cursor;
+use index_entry::IndexEntry;
+use std::io;
+use std::io::{BufWriter, Read, Write};
 
-use index::Answer;
+/// More input is not read.
+const LONGEST_INPUT: u64 = 65536;
 
-// A unit as a character, where it is one of ASCII's.
-fn print_unit(unit: u16) {
-    if unit < 128 {
-        let character = [(unit % 128) as u8];
-        io::write_all(1, &character);
-    } else {
-        io::write_all(1, b"?");
+/// Further entries are not listed.
+const MOST_ENTRIES: usize = 1000;
+
+const CLUSTER_SIZE: usize = 512;
+
+/// How many records may be opened.
+const ALLOWANCE: u64 = 64;
+
+/// A unit as a character, where it is one of ASCII's.
+fn shown(unit: u16) -> char {
+    match u8::try_from(unit) {
+        Ok(byte) if byte.is_ascii() => char::from(byte),
+        _ => '?',
     }
 }
 
-fn print_name(entry: &[u8]) {
-    let name = file_name::name(index_entry::key_bytes(entry));
-    for i in 0..name.len() / 2 {
-        print_unit(le::le16(name, 2 * i));
-    }
-    io::write_all(1, b"\n");
-}
-
-fn print_names<'a>(root: &'a [u8], pool: &'a [u8]) {
-    let mut cursor = index::new_cursor();
-    let most: usize = 1000;
-    for _ in 0..most {
-        let stepped = index::step(root, pool, 512, 64, cursor);
-        let answer = stepped.answer;
-        cursor = stepped.cursor;
-        match answer {
-            Answer::Entry { place, opened: _ } => {
-                print_name(index_node::place_bytes(root, pool, 512, place))
-            }
-            Answer::Refused { .. } => return,
-            Answer::End(_) => return,
+/// A line for an entry, empty where it has no name that can be read.
+fn write_name<W: Write>(writer: &mut W, entry: IndexEntry<'_>) -> io::Result<()> {
+    if let Ok(Some(key)) = entry.key()
+        && let Ok(name) = FileName::try_from(key)
+    {
+        for unit in name.units.as_chunks::<2>().0 {
+            write!(writer, "{}", shown(u16::from_le_bytes(*unit)))?;
         }
     }
+    writeln!(writer)
 }
 
-fn wide(x: u32) -> usize
-    ensures { result < 4294967296 }
-{
-    x as usize
-}
-
-fn print_all(input: &[u8]) {
-    let end = 4 + wide(le::le32(input, 0));
-    if end <= input.len() {
-        print_names(&input[4..end], &input[end..]);
+/// The names, until the listing ends or is refused.
+fn write_names<W: Write>(writer: &mut W, directory: &Directory<'_>) -> io::Result<()> {
+    let mut cursor = Cursor::new();
+    for _step in 0..MOST_ENTRIES {
+        let Ok(
+            Answer {
+                entry: Some(placed),
+                ..
+            },
+        ) = cursor.step(directory, ALLOWANCE)
+        else {
+            break;
+        };
+        write_name(writer, placed.entry)?;
     }
+    Ok(())
 }
 
-fn main() {
-    let mut input = io::large_buffer();
-    let n = io::read_full(0, &mut input);
-    print_all(&input[..n]);
+/// The root and the pool, or nothing where the input is too short.
+fn split(input: &[u8]) -> Option<(&[u8], &[u8])> {
+    let (length, rest) = input.split_first_chunk::<4>()?;
+    rest.split_at_checked(u32::from_le_bytes(*length) as usize)
+}
+
+fn main(rt: HostRuntime) -> io::Result<()> {
+    let mut input = Vec::new(rt.alloc());
+    rt.reader().take(LONGEST_INPUT).read_to_end(&mut input)?;
+    let mut writer = BufWriter::new(rt.alloc(), io::writer(&rt))?;
+    if let Some((root, pool)) = split(&input) {
+        let directory = Directory {
+            root,
+            pool,
+            cluster_size: CLUSTER_SIZE,
+        };
+        write_names(&mut writer, &directory)?;
+    }
+    writer.flush()
 }

@@ -1,8 +1,8 @@
-// Lists the entries of a capture: reads standard input, prints what it holds.
+//! Lists the entries of the capture on standard input.
 #![tactic(auto)]
 
-fn main() {
-    let mut input = io::large_buffer();
-    let n = io::read_full(0, &mut input);
-    capture_show::show(&input[0..n]);
+use std::io;
+
+fn main(rt: HostRuntime) -> io::Result<()> {
+    capture_show::show(rt.alloc(), &mut rt.reader(), &mut io::writer(&rt))
 }

@@ -1,35 +1,20 @@
-// Replays stored captures: the size u32 of each and its bytes on standard input; prints what ntfs_capture prints of it.
+//! Replays stored captures: the size u32 of each and its bytes on standard input. Prints what ntfs_capture prints of each.
 #![tactic(auto)]
 
-fn wide(x: u32) -> usize {
-    x as usize
-}
+use replay_cases::{Case, Cases, LONGEST_INPUT, MOST_CASES};
+use std::io;
+use std::io::{BufWriter, Read, Write};
 
-// One capture into buf; false where there is no whole one left.
-fn run_next(buf: &mut [u8]) -> bool {
-    let mut head = [0u8; 4];
-    if io::read_full(0, &mut head) != 4 {
-        return false;
+fn main(rt: HostRuntime) -> io::Result<()> {
+    let mut input = Vec::new(rt.alloc());
+    rt.reader().take(LONGEST_INPUT).read_to_end(&mut input)?;
+    let mut writer = BufWriter::new(rt.alloc(), io::writer(&rt))?;
+    let captures = Cases {
+        input: &input,
+        tag: 0,
+    };
+    for Case { body, .. } in captures.take(MOST_CASES) {
+        capture_show::show_capture(body, &mut writer)?;
     }
-    let size = wide(le::le32(&head, 0));
-    if buf.len() < size {
-        return false;
-    }
-    if io::read_full(0, &mut buf[0..size]) != size {
-        return false;
-    }
-    capture_show::show(&buf[0..size]);
-    true
-}
-
-fn main() {
-    let mut buf = io::large_buffer();
-    let mut captures: usize = 0;
-    while captures < 100000 {
-        if run_next(&mut buf) {
-            captures += 1;
-        } else {
-            return;
-        }
-    }
+    writer.flush()
 }

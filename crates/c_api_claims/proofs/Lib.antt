@@ -1,0 +1,4 @@
+pub mod Words
+pub mod Back
+pub mod Named
+pub mod Run

@@ -1,0 +1,2 @@
+pub mod FrontLemmas
+pub mod TextLemmas

@@ -1,0 +1,42 @@
+-- Judging level after level from the root down.
+use Rattle.std.proofs.Common.{zero, suc, add-one, ℕ, ◌≡◌, ◌≢◌, ◌+◌, ◌≤◌, ◌<◌, Bool, true, false, nat_eq, List, get_or, get_or-take, take, refl, ◌∙◌}
+use Rattle.std.proofs.Common.{arith, Ok, Err}
+use Rattle.std.proofs.lemmas.Grind.{common_steps}
+use Rattle.refusal.specs.declared.Refusal.{Refusal}
+use Rattle.refusal.specs.Then.{◌>>=◌}
+use Rattle.directory.specs.Lent.{Passed}
+use Rattle.index.specs.declared.cursor.Level.{Level}
+use Rattle.index.specs.Cursor.{blank, frames}
+use Rattle.index.specs.Step.{judge, judge_all}
+
+pub judge-none : (d : Passed) (slots : List Level) → judge_all d (frames slots 0) ≡ Ok tt
+unfolding judge_all frames
+judge-none d slots = refl
+
+pub judge-more : (d : Passed) (slots : List Level) (at depth : ℕ) → at < depth
+    → judge_all d (frames slots (at + 1)) ≡ (judge_all d (frames slots at) >>= λ fine. judge d (get_or (take depth slots) at blank))
+unfolding judge_all frames
+judge-more d slots at depth inside = rw (add-one, get_or-take) refl
+
+-- what is refused higher up is refused
+pub judge-further : (d : Passed) (slots : List Level) (few more : ℕ) (refusal : Refusal) → few ≤ more → judge_all d (frames slots few) ≡ Err refusal
+    → judge_all d (frames slots more) ≡ Err refusal
+unfolding judge_all frames
+judge-further d slots few zero refusal less is = let same : few ≡ 0 = omega arith in rw same at is
+judge-further d slots few (suc more) refusal less is = by (nat_eq few (suc more)) refl (λ lower. judge-further d slots few more refusal lower is)
+  where
+    by : (here : Bool) → nat_eq few (suc more) ≡ here → (few ≤ more → judge_all d (frames slots more) ≡ Err refusal)
+        → judge_all d (frames slots (suc more)) ≡ Err refusal
+    by true here lower = let same : few ≡ suc more = grind (arith, common_steps) in rw same at is
+    by false here lower = let other : few ≢ suc more = grind (arith, common_steps) in rw (lower (omega arith)) refl
+
+pub judge-passed : (d : Passed) (slots : List Level) (at depth : ℕ) (fine : Unit {0}) → at < depth → judge_all d (frames slots at) ≡ Ok tt
+    → judge d (get_or (take depth slots) at blank) ≡ Ok fine → judge_all d (frames slots (at + 1)) ≡ Ok tt
+judge-passed d slots at depth fine inside before here = judge-more d slots at depth inside ∙ rw before here
+
+pub judge-broken : (d : Passed) (slots : List Level) (at depth : ℕ) (refusal : Refusal) → at < depth → judge_all d (frames slots at) ≡ Ok tt
+    → judge d (get_or (take depth slots) at blank) ≡ Err refusal → judge_all d (frames slots depth) ≡ Err refusal
+judge-broken d slots at depth refusal inside before here =
+    judge-further d slots (at + 1) depth refusal (omega arith) (judge-more d slots at depth inside ∙ rw before here)
+
+pub ruleset of_checks = (judge-none, judge-passed, judge-broken)

@@ -1,0 +1,113 @@
+//! What the proved functions answer, as a case's line shows it.
+use crate::case::NodeCase;
+use directory::{Answer, Node, Place};
+use index::{Cursor, NodeName};
+use index_allocation::{PlacedRecord, block_number, record_from_vcn};
+use refusal::{Fault, Refusal};
+use std::io;
+use std::io::Write;
+
+fn write_refusal<W: Write>(writer: &mut W, refusal: Refusal) -> io::Result<()> {
+    write!(writer, "refused {}", refusal.number())
+}
+
+/// The record at a VCN, whatever the directory's root says: 13 to 17.
+fn open_record<'a>(case: &NodeCase<'a>, vcn: i64) -> Result<Node<'a>, Refusal> {
+    let pool = case.directory.pool;
+    let size = index_root::index_record_size(case.directory.root);
+    let number = record_from_vcn(vcn, case.directory.cluster_size, size, pool.len())?;
+    let start = number * size;
+    Node::read(PlacedRecord {
+        number,
+        vcn,
+        bytes: &pool[start..start + size],
+    })
+}
+
+fn open<'a>(case: &NodeCase<'a>) -> Result<Node<'a>, Refusal> {
+    match case.node {
+        NodeName::Root => Ok(case.directory.open()?.root_node()),
+        NodeName::Record(vcn) => open_record(case, vcn),
+    }
+}
+
+/// A node opened: where its entries start and end, how long its slice is and where it lies.
+pub(crate) fn write_node<W: Write>(writer: &mut W, case: &NodeCase<'_>) -> io::Result<()> {
+    let node = match open(case) {
+        Ok(node) => node,
+        Err(refusal) => return write_refusal(writer, refusal),
+    };
+    let size = node.bytes.len();
+    let from = match node.place {
+        Place::Root => 0,
+        Place::Record { number, vcn: _ } => number.saturating_mul(size),
+    };
+    write!(
+        writer,
+        "start {} used {} of {size} at {from}",
+        node.start, node.end
+    )
+}
+
+/// The entry of a node at the case's position.
+pub(crate) fn write_entry<W: Write>(writer: &mut W, case: &NodeCase<'_>) -> io::Result<()> {
+    let node = match open(case) {
+        Ok(node) => node,
+        Err(refusal) => return write_refusal(writer, refusal),
+    };
+    match node.entry_at(case.position) {
+        None => write!(writer, "over"),
+        Some(Ok(placed)) => write!(writer, "entry of {}", placed.entry.bytes.len()),
+        Some(Err(refusal)) => write_refusal(writer, refusal),
+    }
+}
+
+/// The root, or a record by its VCN.
+fn write_place<W: Write>(writer: &mut W, node: Place) -> io::Result<()> {
+    match node {
+        Place::Root => write!(writer, "root"),
+        Place::Record { number: _, vcn } => match block_number(vcn) {
+            Ok(number) => write!(writer, "{number}"),
+            Err(_) => write!(writer, "-"),
+        },
+    }
+}
+
+/// An entry by its node, offset and length, or how the listing ends; and the count of records opened.
+fn write_answer<W: Write>(writer: &mut W, answer: Result<Answer<'_>, Fault>) -> io::Result<()> {
+    match answer {
+        Ok(
+            Answer {
+                entry: Some(placed),
+                opened,
+            },
+        ) => {
+            write_place(writer, placed.node)?;
+            let size = placed.entry.bytes.len();
+            write!(writer, " {} {size} opened {opened}", placed.at)
+        }
+        Ok(
+            Answer {
+                entry: None,
+                opened,
+            },
+        ) => write!(writer, "end opened {opened}"),
+        Err(Fault { refusal, opened }) => {
+            write_refusal(writer, refusal)?;
+            write!(writer, " opened {opened}")
+        }
+    }
+}
+
+/// So many steps of a listing as the case's position says.
+pub(crate) fn write_steps<W: Write>(
+    writer: &mut W,
+    case: &NodeCase<'_>,
+    cursor: &mut Cursor,
+) -> io::Result<()> {
+    for _step in 0..case.position {
+        write!(writer, "\n    ")?;
+        write_answer(writer, cursor.step(&case.directory, case.allowance))?;
+    }
+    Ok(())
+}

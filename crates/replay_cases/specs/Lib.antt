@@ -1,0 +1,4 @@
+pub mod Cases
+pub mod Fixture
+pub mod Lent
+pub mod Numbers

@@ -1,0 +1,12 @@
+pub mod Elements
+pub mod Keys
+pub mod Names
+pub mod Subnodes
+pub mod Tree
+pub mod WellTree
+pub mod Marks
+pub mod Places
+pub mod Passed
+pub mod Fit
+pub mod Whole
+pub mod Found

@@ -1,0 +1,5 @@
+use Rattle.sound.proofs.Whole.{marks_after_a_pass}
+use Rattle.sound.proofs.marks_after_a_pass.Goals as goal
+
+pub returns : goal.returns
+returns c = marks_after_a_pass

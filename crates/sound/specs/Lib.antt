@@ -1,0 +1,6 @@
+pub mod Keys
+pub mod Tree
+pub mod Fit
+pub mod Sorted
+pub mod Pass
+pub mod Found
