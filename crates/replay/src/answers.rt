@@ -1,6 +1,5 @@
 //! What the proved functions answer, as a case's line shows it.
-use crate::case::NodeCase;
-use directory::{Answer, Node, Place};
+use directory::{Answer, Directory, Node, Place};
 use index::{Cursor, NodeName};
 use index_allocation::{PlacedRecord, block_number, record_from_vcn};
 use refusal::{Fault, Refusal};
@@ -12,10 +11,10 @@ fn write_refusal<W: Write>(writer: &mut W, refusal: Refusal) -> io::Result<()> {
 }
 
 /// The record at a VCN, whatever the directory's root says: 13 to 17.
-fn open_record<'a>(case: &NodeCase<'a>, vcn: i64) -> Result<Node<'a>, Refusal> {
-    let pool = case.directory.pool;
-    let size = index_root::index_record_size(case.directory.root);
-    let number = record_from_vcn(vcn, case.directory.cluster_size, size, pool.len())?;
+fn open_record<'a>(directory: &Directory<'a>, vcn: i64) -> Result<Node<'a>, Refusal> {
+    let pool = directory.pool;
+    let size = index_root::index_record_size(directory.root);
+    let number = record_from_vcn(vcn, directory.cluster_size, size, pool.len())?;
     let start = number * size;
     Node::read(PlacedRecord {
         number,
@@ -24,16 +23,20 @@ fn open_record<'a>(case: &NodeCase<'a>, vcn: i64) -> Result<Node<'a>, Refusal> {
     })
 }
 
-fn open<'a>(case: &NodeCase<'a>) -> Result<Node<'a>, Refusal> {
-    match case.node {
-        NodeName::Root => Ok(case.directory.open()?.root_node()),
-        NodeName::Record(vcn) => open_record(case, vcn),
+fn open<'a>(directory: &Directory<'a>, node: NodeName) -> Result<Node<'a>, Refusal> {
+    match node {
+        NodeName::Root => Ok(directory.open()?.root_node()),
+        NodeName::Record(vcn) => open_record(directory, vcn),
     }
 }
 
 /// A node opened: where its entries start and end, how long its slice is and where it lies.
-pub(crate) fn write_node<W: Write>(writer: &mut W, case: &NodeCase<'_>) -> io::Result<()> {
-    let node = match open(case) {
+pub(crate) fn write_node<W: Write>(
+    writer: &mut W,
+    directory: &Directory<'_>,
+    node: NodeName,
+) -> io::Result<()> {
+    let node = match open(directory, node) {
         Ok(node) => node,
         Err(refusal) => return write_refusal(writer, refusal),
     };
@@ -49,13 +52,18 @@ pub(crate) fn write_node<W: Write>(writer: &mut W, case: &NodeCase<'_>) -> io::R
     )
 }
 
-/// The entry of a node at the case's position.
-pub(crate) fn write_entry<W: Write>(writer: &mut W, case: &NodeCase<'_>) -> io::Result<()> {
-    let node = match open(case) {
+/// The entry of a node at the position.
+pub(crate) fn write_entry<W: Write>(
+    writer: &mut W,
+    directory: &Directory<'_>,
+    node: NodeName,
+    position: usize,
+) -> io::Result<()> {
+    let node = match open(directory, node) {
         Ok(node) => node,
         Err(refusal) => return write_refusal(writer, refusal),
     };
-    match node.entry_at(case.position) {
+    match node.entry_at(position) {
         None => write!(writer, "over"),
         Some(Ok(placed)) => write!(writer, "entry of {}", placed.entry.bytes.len()),
         Some(Err(refusal)) => write_refusal(writer, refusal),
@@ -99,15 +107,17 @@ fn write_answer<W: Write>(writer: &mut W, answer: Result<Answer<'_>, Fault>) -> 
     }
 }
 
-/// So many steps of a listing as the case's position says.
+/// So many steps of a listing, from where the cursor stands.
 pub(crate) fn write_steps<W: Write>(
     writer: &mut W,
-    case: &NodeCase<'_>,
+    directory: &Directory<'_>,
     cursor: &mut Cursor,
+    steps: usize,
+    allowance: u64,
 ) -> io::Result<()> {
-    for _step in 0..case.position {
+    for _step in 0..steps {
         write!(writer, "\n    ")?;
-        write_answer(writer, cursor.step(&case.directory, case.allowance))?;
+        write_answer(writer, cursor.step(directory, allowance))?;
     }
     Ok(())
 }

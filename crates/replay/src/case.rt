@@ -1,6 +1,7 @@
 //! A case of one node or of one listing.
 use directory::Directory;
 use index::NodeName;
+use le::{le16, le64, signed_le64};
 use replay_cases::{directory_in, number_at, part};
 
 /// What stands before the label.
@@ -9,22 +10,39 @@ const HEADER: usize = 28;
 /// What a case asks for.
 #[derive(Clone, Copy)]
 pub enum Operation {
-    OpenNode,
+    OpenNode(NodeName),
     /// The entry of a node at the position.
-    NextEntry,
+    EntryAt { node: NodeName, position: usize },
     /// The first steps of a listing.
-    List,
+    List { steps: usize, allowance: u64 },
     /// Further steps of the listing before, over this case's memory.
-    GoOn,
+    GoOn { steps: usize, allowance: u64 },
 }
 
-impl From<u8> for Operation {
-    fn from(number: u8) -> Operation {
-        match number {
-            1 => Operation::OpenNode,
-            3 => Operation::List,
-            4 => Operation::GoOn,
-            _ => Operation::NextEntry,
+impl From<&[u8]> for Operation {
+    /// What a case asks for; a number that does not lie in its body is 0.
+    fn from(body: &[u8]) -> Operation {
+        let [operation, node] = le16(body, 0).to_le_bytes();
+        let node = match node {
+            0 => NodeName::Root,
+            _ => NodeName::Record(signed_le64(body, 8)),
+        };
+        let count = number_at(body, 4);
+        let allowance = le64(body, 8);
+        match operation {
+            1 => Operation::OpenNode(node),
+            3 => Operation::List {
+                steps: count,
+                allowance,
+            },
+            4 => Operation::GoOn {
+                steps: count,
+                allowance,
+            },
+            _ => Operation::EntryAt {
+                node,
+                position: count,
+            },
         }
     }
 }
@@ -33,40 +51,20 @@ impl From<u8> for Operation {
 pub struct NodeCase<'a> {
     pub operation: Operation,
     pub label: &'a [u8],
-    pub node: NodeName,
-    /// Where an entry is sought, or how many steps a listing takes.
-    pub position: usize,
-    pub allowance: u64,
     pub directory: Directory<'a>,
-}
-
-/// The bytes of a number, or zeros where the case is too short.
-fn bytes_at<const N: usize>(body: &[u8], at: usize) -> [u8; N] {
-    match body.get(at..).and_then(|rest| rest.first_chunk()) {
-        Some(bytes) => *bytes,
-        None => [0; N],
-    }
 }
 
 impl<'a> From<&'a [u8]> for NodeCase<'a> {
     fn from(body: &'a [u8]) -> NodeCase<'a> {
-        let [operation, node]: [u8; 2] = bytes_at(body, 0);
-        let label = u16::from_le_bytes(bytes_at(body, 2)) as usize;
-        let vcn = bytes_at(body, 8);
+        let label = usize::from(le16(body, 2));
         let contents = part(
             body,
             HEADER + label,
             number_at(body, 20) + number_at(body, 24),
         );
         NodeCase {
-            operation: Operation::from(operation),
+            operation: Operation::from(body),
             label: part(body, HEADER, label),
-            node: match node {
-                0 => NodeName::Root,
-                _ => NodeName::Record(i64::from_le_bytes(vcn)),
-            },
-            position: number_at(body, 4),
-            allowance: u64::from_le_bytes(vcn),
             directory: directory_in(part(body, 16, 12), contents),
         }
     }

@@ -1,6 +1,7 @@
 //! Replays stored cases: reads them from standard input and prints a line for each, as the proved functions answer.
-//! A case: the size u32 of what follows, at most 65,536; operation u8, node u8 (0 root, 1 record), label length u16, position u32,
-//! VCN i64, cluster size u32, root length u32, pool length u32; then the label, the root and the pool.
+//! A case: the size u32 of what follows, at most 65,536; operation u8, node u8 (0 root, 1 record), label length u16, a u32 and 8 bytes,
+//! cluster size u32, root length u32, pool length u32; then the label, the root and the pool. The u32 is an entry's position, or how
+//! many steps; the 8 bytes are a record's VCN, signed, or a listing's allowance.
 #![tactic(auto)]
 
 mod answers;
@@ -15,14 +16,17 @@ use std::io::{BufWriter, Read, Write};
 
 /// A case's line; the cursor is kept for a case that goes on.
 fn run_case<W: Write>(writer: &mut W, case: &NodeCase<'_>, cursor: &mut Cursor) -> io::Result<()> {
+    let directory = &case.directory;
     match case.operation {
-        Operation::OpenNode => write_node(writer, case),
-        Operation::NextEntry => write_entry(writer, case),
-        Operation::List => {
+        Operation::OpenNode(node) => write_node(writer, directory, node),
+        Operation::EntryAt { node, position } => write_entry(writer, directory, node, position),
+        Operation::List { steps, allowance } => {
             *cursor = Cursor::new();
-            write_steps(writer, case, cursor)
+            write_steps(writer, directory, cursor, steps, allowance)
         }
-        Operation::GoOn => write_steps(writer, case, cursor),
+        Operation::GoOn { steps, allowance } => {
+            write_steps(writer, directory, cursor, steps, allowance)
+        }
     }
 }
 
