@@ -11,11 +11,12 @@ use refusal::Fault;
 use replay_cases::{
     Cases, Fixture, LONGEST_BODY, LONGEST_INPUT, MOST_CASES, Setup, UnknownSetup, number_at,
 };
+use std::alloc::Global;
 use std::io;
 use std::io::{BufWriter, Read, Write};
 
-/// More than any stored directory has records.
-const MARKS: usize = 256;
+/// More than any stored directory has records; more marks are not lent.
+const MOST_MARKS: usize = 256;
 
 /// One more than a table should have, so that too many can be lent.
 const UNITS: usize = 65537;
@@ -70,26 +71,36 @@ fn check<W: Write>(
 }
 
 /// A check, where no more marks and units are to be lent than there are.
-fn run_check<W: Write>(writer: &mut W, fixture: &Fixture, body: &[u8]) -> io::Result<()> {
+fn run_check<W: Write>(
+    writer: &mut W,
+    alloc: Global,
+    fixture: &Fixture,
+    body: &[u8],
+) -> io::Result<()> {
     if let Some(label) = body.get(12..) {
         writer.write_all(label)?;
     }
     let count = number_at(body, 0);
     let mark = (number_at(body, 4) % 256) as u8;
     if let Some(table) = fixture.table.get(..number_at(body, 8))
-        && count <= MARKS
+        && count <= MOST_MARKS
     {
-        let mut marks = [mark; MARKS];
-        check(writer, fixture.directory(), table, &mut marks[..count])?;
+        let mut marks = vec![in alloc; mark; count]?;
+        check(writer, fixture.directory(), table, &mut marks)?;
     }
     writeln!(writer)
 }
 
-fn run_cases<W: Write>(writer: &mut W, fixture: &mut Fixture, input: &[u8]) -> io::Result<()> {
+fn run_cases<W: Write>(
+    writer: &mut W,
+    alloc: Global,
+    fixture: &mut Fixture,
+    input: &[u8],
+) -> io::Result<()> {
     for case in (Cases { input, tag: 4 }).take(MOST_CASES) {
         match Operation::try_from(number_at(case.tag, 0)) {
             Ok(Operation::SetUp(setup)) => fixture.set_up(setup, case.body),
-            Ok(Operation::Check) => run_check(writer, fixture, case.body)?,
+            Ok(Operation::Check) => run_check(writer, alloc, fixture, case.body)?,
             Err(_) => {}
         }
     }
@@ -105,6 +116,6 @@ fn main(rt: HostRuntime) -> io::Result<()> {
         table: vec![in alloc; 0; UNITS]?,
     };
     let mut writer = BufWriter::new(alloc, io::writer(&rt))?;
-    run_cases(&mut writer, &mut fixture, &input)?;
+    run_cases(&mut writer, alloc, &mut fixture, &input)?;
     writer.flush()
 }
