@@ -5,8 +5,8 @@ use index::Cursor;
 use index_entry::IndexEntry;
 use index_root::index_record_size;
 use refusal::Fault;
-use std::io;
 use std::io::Write;
+use std::{fmt, io};
 
 /// More than any stored directory has entries.
 const STEPS: usize = 1000;
@@ -36,102 +36,95 @@ fn write_refused<W: Write>(writer: &mut W, fault: Fault) -> io::Result<()> {
 }
 
 /// The file reference of an entry.
-fn write_reference<W: Write>(writer: &mut W, entry: IndexEntry<'_>) -> io::Result<()> {
-    let reference = entry.file_reference();
-    write!(
-        writer,
-        "{}:{}",
-        reference.file_record_number(),
-        reference.sequence_number()
-    )
-}
+#[derive(Clone, Copy)]
+struct Reference<'a>(IndexEntry<'a>);
 
-/// The bytes of an entry's name; none where it has none that can be read.
-fn name_of<'a>(entry: IndexEntry<'a>) -> &'a [u8] {
-    match entry.key() {
-        Ok(Some(key)) => match FileName::try_from(key) {
-            Ok(name) => name.units,
-            Err(_) => &[],
-        },
-        _ => &[],
+impl fmt::Display for Reference<'_> {
+    fn fmt<W: fmt::Write>(&self, f: &mut fmt::Formatter<W>) -> fmt::Result {
+        let reference = self.0.file_reference();
+        let number = reference.file_record_number();
+        write!(f, "{number}:{}", reference.sequence_number())
     }
 }
 
-fn write_units<W: Write>(writer: &mut W, name: &[u8]) -> io::Result<()> {
-    for pair in name.as_chunks::<2>().0 {
-        write!(writer, "{:04x}", u16::from_le_bytes(*pair))?;
-    }
-    Ok(())
+/// The name that an entry's key reads as, if it has a key that can be read.
+fn name_of<'a>(entry: IndexEntry<'a>) -> Option<FileName<'a>> {
+    let key = entry.key().ok()??;
+    FileName::try_from(key).ok()
 }
 
-/// Where an entry lies: the slice, its offset there, its length.
-fn write_place<W: Write>(
-    writer: &mut W,
-    directory: Directory<'_>,
-    placed: PlacedEntry<'_>,
-) -> io::Result<()> {
-    let (slice, from) = match placed.node {
-        Place::Root => ("root", 0),
-        Place::Record { number, vcn: _ } => {
-            (
-                "pool",
-                number.saturating_mul(index_record_size(directory.root)),
-            )
-        }
-    };
-    let at = from.saturating_add(placed.at);
-    write!(writer, "{slice}:{at}:{}", placed.entry.bytes.len())
-}
+/// The units of an entry's name; none where it has none that can be read.
+#[derive(Clone, Copy)]
+struct Name<'a>(IndexEntry<'a>);
 
-impl Walk<'_> {
-    fn write_listed<W: Write>(
-        &self,
-        writer: &mut W,
-        placed: PlacedEntry<'_>,
-        opened: u64,
-    ) -> io::Result<()> {
-        match self.shown {
-            Shown::Names => {
-                write!(writer, "\n    ")?;
-                write_reference(writer, placed.entry)?;
-                write!(writer, ":")?;
-                write_units(writer, name_of(placed.entry))
-            }
-            Shown::Places => {
-                write!(writer, " ")?;
-                write_place(writer, self.directory, placed)?;
-                write!(writer, ":{opened}")
+impl fmt::Display for Name<'_> {
+    fn fmt<W: fmt::Write>(&self, f: &mut fmt::Formatter<W>) -> fmt::Result {
+        if let Some(name) = name_of(self.0) {
+            for pair in name.units.as_chunks::<2>().0 {
+                write!(f, "{:04x}", u16::from_le_bytes(*pair))?;
             }
         }
+        Ok(())
     }
+}
 
-    fn write_found<W: Write>(
-        &self,
-        writer: &mut W,
-        placed: PlacedEntry<'_>,
-        opened: u64,
-    ) -> io::Result<()> {
-        write!(writer, " found:")?;
-        match self.shown {
-            Shown::Names => write_reference(writer, placed.entry),
-            Shown::Places => {
-                write_place(writer, self.directory, placed)?;
-                write!(writer, ":{opened}")
+/// Where an entry of a directory lies: the slice, its offset there, its length.
+#[derive(Clone, Copy)]
+struct Location<'a> {
+    directory: Directory<'a>,
+    placed: PlacedEntry<'a>,
+}
+
+impl fmt::Display for Location<'_> {
+    fn fmt<W: fmt::Write>(&self, f: &mut fmt::Formatter<W>) -> fmt::Result {
+        let placed = self.placed;
+        let (slice, from) = match placed.node {
+            Place::Root => ("root", 0),
+            Place::Record { number, vcn: _ } => {
+                (
+                    "pool",
+                    number.saturating_mul(index_record_size(self.directory.root)),
+                )
             }
+        };
+        let at = from.saturating_add(placed.at);
+        write!(f, "{slice}:{at}:{}", placed.entry.bytes.len())
+    }
+}
+
+impl<'a> Walk<'a> {
+    fn location(&self, placed: PlacedEntry<'a>) -> Location<'a> {
+        Location {
+            directory: self.directory,
+            placed,
         }
     }
 
-    fn write_missing<W: Write>(&self, writer: &mut W, opened: u64) -> io::Result<()> {
-        match self.shown {
-            Shown::Names => write!(writer, " missing"),
-            Shown::Places => write!(writer, " missing:{opened}"),
+    /// An entry of the listing, or its end.
+    fn write_listed<W: Write>(&self, writer: &mut W, answer: Answer<'a>) -> io::Result<()> {
+        let opened = answer.opened;
+        match (self.shown, answer.entry) {
+            (Shown::Places, Some(placed)) => write!(writer, " {}:{opened}", self.location(placed)),
+            (Shown::Places, None) => write!(writer, " end:{opened}"),
+            (Shown::Names, Some(PlacedEntry { entry, .. })) => {
+                write!(writer, "\n    {}:{}", Reference(entry), Name(entry))
+            }
+            (Shown::Names, None) => write!(writer, "\n    end"),
         }
     }
 
-    fn write_end<W: Write>(&self, writer: &mut W, opened: u64) -> io::Result<()> {
-        match self.shown {
-            Shown::Names => write!(writer, "\n    end"),
-            Shown::Places => write!(writer, " end:{opened}"),
+    /// The entry that a lookup found, or that there is none.
+    fn write_sought<W: Write>(&self, writer: &mut W, answer: Answer<'a>) -> io::Result<()> {
+        let opened = answer.opened;
+        match (self.shown, answer.entry) {
+            (Shown::Places, Some(placed)) => {
+                write!(writer, " found:{}:{opened}", self.location(placed))
+            }
+            (Shown::Places, None) => write!(writer, " missing:{opened}"),
+            (Shown::Names, Some(PlacedEntry { entry, .. })) => {
+                write!(writer, " found:{}", Reference(entry))
+            }
+            (Shown::Names, None) => write!(writer, " missing"),
         }
     }
 
@@ -139,20 +132,13 @@ impl Walk<'_> {
     pub(crate) fn write_listing<W: Write>(&self, writer: &mut W) -> io::Result<()> {
         let mut cursor = Cursor::new();
         for _step in 0..STEPS {
-            match cursor.step(&self.directory, self.allowance) {
-                Ok(
-                    Answer {
-                        entry: Some(placed),
-                        opened,
-                    },
-                ) => self.write_listed(writer, placed, opened)?,
-                Ok(
-                    Answer {
-                        entry: None,
-                        opened,
-                    },
-                ) => return self.write_end(writer, opened),
+            let answer = match cursor.step(&self.directory, self.allowance) {
+                Ok(answer) => answer,
                 Err(fault) => return write_refused(writer, fault),
+            };
+            self.write_listed(writer, answer)?;
+            if answer.entry.is_none() {
+                break;
             }
         }
         Ok(())
@@ -166,18 +152,7 @@ impl Walk<'_> {
         name: &[u16],
     ) -> io::Result<()> {
         match index_finder::find_file_name(&self.directory, table, name, self.allowance) {
-            Ok(
-                Answer {
-                    entry: Some(placed),
-                    opened,
-                },
-            ) => self.write_found(writer, placed, opened),
-            Ok(
-                Answer {
-                    entry: None,
-                    opened,
-                },
-            ) => self.write_missing(writer, opened),
+            Ok(answer) => self.write_sought(writer, answer),
             Err(fault) => write_refused(writer, fault),
         }
     }
