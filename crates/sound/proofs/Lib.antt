@@ -2,6 +2,9 @@ pub mod Elements
 pub mod Keys
 pub mod Names
 pub mod Subnodes
+pub mod AnyDirectory
+pub mod AnyPaths
+pub mod CodeWalks
 pub mod Tree
 pub mod WellTree
 pub mod Marks

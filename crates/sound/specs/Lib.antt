@@ -4,3 +4,4 @@ pub mod Fit
 pub mod Sorted
 pub mod Pass
 pub mod Found
+pub mod AnyDirectory

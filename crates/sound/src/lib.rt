@@ -1,6 +1,7 @@
 //! What it means that a directory has passed.
 #![tactic(auto)]
 
+ghost use Rattle.sound.specs.AnyDirectory.{CodeWalksSo, NoneLostInAnyDirectory, ReachedByPathInAnyDirectory, TreeListedInAnyDirectory};
 ghost use Rattle.sound.specs.Found.{FoundIffListed, FoundOrNot};
 ghost use Rattle.sound.specs.Pass.{Marks, MarksCleared, MarksUnchanged, Pass, ReachedByPath};
 ghost use Rattle.sound.specs.Tree.{NoneLost, TreeListed};
@@ -50,4 +51,24 @@ pub fn tree_listed()
 /// Under any total order, in a tree whose names never fall, going down as a lookup does loses no equal entry.
 pub fn none_lost()
     ensures { NoneLost }
+{}
+
+/// The records reached are those that a path of entries leads to, whatever functions give the directory.
+pub fn reached_by_path_in_any_directory()
+    ensures { ReachedByPathInAnyDirectory }
+{}
+
+/// The full listing of a tree yields the tree's entries, and ends, whatever functions give the directory.
+pub fn tree_listed_in_any_directory()
+    ensures { TreeListedInAnyDirectory }
+{}
+
+/// Under any total order, in a tree whose names never fall, going down as a lookup does loses no equal entry, whatever functions give the directory.
+pub fn none_lost_in_any_directory()
+    ensures { NoneLostInAnyDirectory }
+{}
+
+/// The code's listing, its lookup and the records that it reaches are those of one such directory.
+pub fn code_walks_so()
+    ensures { CodeWalksSo }
 {}
