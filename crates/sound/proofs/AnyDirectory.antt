@@ -27,7 +27,7 @@ use Rattle.sound.proofs.Names.{none-nil, none-cons, none-append, none-to, none-f
 abbrev pub Ends : Listing → List EntryPlaced → Type 0
 Ends l entries = (n : ℕ) × Lists l entries n
 
-ends-then : {l : Listing} {xs : List EntryPlaced} {n : ℕ} → Lists l xs n → (ys : List EntryPlaced) (next : ℕ → Listing) → ((o : ℕ) → Ends (next o) ys)
+pub ends-then : {l : Listing} {xs : List EntryPlaced} {n : ℕ} → Lists l xs n → (ys : List EntryPlaced) (next : ℕ → Listing) → ((o : ℕ) → Ends (next o) ys)
     → Ends (and_then l next) (xs ++ ys)
 ends-then (lists_none o) ys next more = more o
 ends-then (lists_one entry o rest xs n its) ys next more = let then_more = ends-then its ys next more in
@@ -42,11 +42,11 @@ pub spent-late : (allowance o : ℕ) → o < allowance → spent_at allowance o 
 spent-late allowance o low = grind (arith, common_steps)
 
 module _ (d : Dir) where
-  subnode-lone : (left : ℕ) (spent : Bool) (entry : List ℕ) → d.vcn entry ≡ Ok None → subnode d left spent entry ≡ Ok None
+  pub subnode-lone : (left : ℕ) (spent : Bool) (entry : List ℕ) → d.vcn entry ≡ Ok None → subnode d left spent entry ≡ Ok None
   unfolding subnode
   subnode-lone left spent entry alone = ap (opening_of d left spent) alone
 
-  leads-opens : (left : ℕ) (entry : List ℕ) (node : NodeSeen) → Leads d entry node → subnode d (suc left) false entry ≡ Ok (Some node)
+  pub leads-opens : (left : ℕ) (entry : List ℕ) (node : NodeSeen) → Leads d entry node → subnode d (suc left) false entry ≡ Ok (Some node)
   unfolding subnode opening
   leads-opens left entry node leads = by (d.vcn entry) ∙ leads
     where
@@ -56,7 +56,7 @@ module _ (d : Dir) where
       by (Err refusal) = refl
 
 module _ (d : Dir) {K : Type 0} (kind : Kind K) where
-  tall : {levels : ℕ} {es : Entries} → Tree d kind levels es → (left : ℕ) × (levels ≡ suc left)
+  pub tall : {levels : ℕ} {es : Entries} → Tree d kind levels es → (left : ℕ) × (levels ≡ suc left)
   tall (out left) = (left, refl)
   tall (end left entry rest last alone) = (left, refl)
   tall (down left entry rest last node leads below) = (left, refl)
@@ -64,7 +64,7 @@ module _ (d : Dir) {K : Type 0} (kind : Kind K) where
   tall (fork left entry rest name goes named node leads below more) = (left, refl)
 
   -- above a tree what leads to a node may be opened
-  opens-tree : {levels : ℕ} {es : Entries} → Tree d kind levels es → (entry : List ℕ) (node : NodeSeen) → Leads d entry node
+  pub opens-tree : {levels : ℕ} {es : Entries} → Tree d kind levels es → (entry : List ℕ) (node : NodeSeen) → Leads d entry node
       → subnode d levels false entry ≡ Ok (Some node)
   opens-tree t entry node leads =
       let its = tall t in ap (λ n. subnode d n false entry) (its.1) ∙ leads-opens d (its.0) entry node leads

@@ -1,6 +1,6 @@
 -- What the code walks is a directory as functions give it.
-use Rattle.std.proofs.Common.{zero, suc, ℕ, ℤ, ◌≡◌, ◌+◌, nat_eq, Bool, true, false, List, [], ◌∷◌, ◌++◌, refl, sym, ◌∙◌, ap, if◌then◌else◌}
-use Rattle.std.proofs.Common.{Option, Some, None, Result, Ok, Err, Ordering}
+use Rattle.std.proofs.Common.{zero, suc, ℕ, ℤ, ◌≡◌, ◌+◌, nat_eq, Bool, true, false, List, [], ◌∷◌, ◌++◌, refl, ◌∙◌, ap, if◌then◌else◌}
+use Rattle.std.proofs.Common.{Option, Some, None, Result, Ok, Err}
 use Rattle.refusal.specs.declared.Refusal.{Refusal}
 use Rattle.refusal.specs.declared.Refusal.TheVariants.{SubnodeWithoutPool, TooManyLevels, AllowanceSpent}
 use Rattle.refusal.specs.Then.{◌>>=◌}

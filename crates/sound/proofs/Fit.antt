@@ -1,9 +1,7 @@
 -- What is said of a directory's parts one by one is that it is a tree of well formed nodes.
-use Rattle.std.proofs.Common.{zero, suc, sub-one, ℕ, ◌≡◌, ◌+◌, ◌<◌, ◌≤◌, Bool, true, false, List, [], ◌∷◌, ◌++◌, length, refl, sym, ◌∙◌, ap, subst, arith}
-use Rattle.std.proofs.Common.{if◌then◌else◌, ◌⊎◌, inl, inr, Option, Some, None, Result, Ok, Err}
+use Rattle.std.proofs.Common.{zero, suc, sub-one, ℕ, ◌≡◌, ◌+◌, ◌<◌, ◌≤◌, true, false, List, [], ◌∷◌, ◌++◌, length, refl, sym, ◌∙◌, ap, subst, arith}
+use Rattle.std.proofs.Common.{if◌then◌else◌, inl, inr, Some, None, Ok}
 use Rattle.std.specs.Prelude.{Contains}
-use Rattle.std.proofs.lemmas.List.Elements.{Contains-append_left, Contains-append_right, Contains-append_cases}
-use Rattle.refusal.specs.declared.Refusal.{Refusal}
 use Rattle.index_entry.specs.Entry.{is_last, subnode_of}
 use Rattle.collation.specs.Kind.{Kind}
 use Rattle.directory.specs.Directory.{subnode}
@@ -18,7 +16,10 @@ use Rattle.sound.specs.Pass.{ReachedByPath}
 use Rattle.sound.specs.Sorted.{Reaches}
 use Rattle.index_run.specs.More.{never}
 use Rattle.sound.specs.Tree.{Leads, items}
-use Rattle.sound.proofs.Elements.{contains-none, contains-cases, contains-here, contains-there}
+use Rattle.sound.specs.AnyDirectory as any
+use Rattle.sound.specs.AnyDirectory.{dir_of}
+use Rattle.sound.proofs.AnyPaths.{reached_by_path_in_any_directory}
+use Rattle.sound.proofs.CodeWalks.{subnode-same, code_reaches_so}
 use Rattle.sound.proofs.Keys.{is-named}
 use Rattle.sound.proofs.Subnodes.{subnode-lone, leads-not}
 use Rattle.sound.proofs.Tree.{tree-ends, yielded-lists, keys_of-items}
@@ -184,107 +185,76 @@ module _ (d : Passed) {K : Type 0} (kind : Kind K) where
 
 -- the records reached are those that a path leads to
 module _ (d : Passed) where
-  -- an entry of these whose subnode is the record, or from which a path leads on to it
-  record IsOn (levels : ℕ) (es : Entries) (number : ℕ) : Type 0 where
-    entry : EntryPlaced
-    node : NodeSeen
-    has : Has es entry
-    leads : Leads d entry.bytes node
-    then_on : (number_in node.place ≡ number) ⊎ Contains (reached d levels node) number
+  has-any : {es : Entries} {entry : EntryPlaced} → Has es entry → any.Has (dir_of d) es entry
+  has-any (at_first entry rest) = any.at_first entry rest
+  has-any (later entry first rest goes there) = any.later entry first rest goes (has-any there)
 
-  in_front : (levels : ℕ) (first : EntryPlaced) (rest : Entries) (number : ℕ) (r : Result (Option NodeSeen) Refusal) → subnode d 1 false first.bytes ≡ r
-      → Contains (reached_sub d (reached d levels) r) number
-      → IsOn levels (Ok first ∷ rest) number
-  in_front levels first rest number (Ok (Some node)) leads has =
+  any-has : {es : Entries} {entry : EntryPlaced} → any.Has (dir_of d) es entry → Has es entry
+  any-has (any.at_first entry rest) = at_first entry rest
+  any-has (any.later entry first rest goes there) = later entry first rest goes (any-has there)
+
+  leads-any : (entry : List ℕ) (node : NodeSeen) → Leads d entry node → any.Leads (dir_of d) entry node
+  leads-any entry node leads = sym (subnode-same d 1 false entry) ∙ leads
+
+  any-leads : (entry : List ℕ) (node : NodeSeen) → any.Leads (dir_of d) entry node → Leads d entry node
+  any-leads entry node leads = subnode-same d 1 false entry ∙ leads
+
+  down-any : {steps : ℕ} {root to : NodeSeen} → Down d steps root to → any.Down (dir_of d) steps (entries_of root) (entries_of to)
+  down-any (here node) = any.here (entries_of node)
+  down-any (into steps node below to entry has leads path) =
+      any.into_node steps (entries_of node) (entries_of to) entry below (has-any has) (leads-any entry.bytes below leads) (down-any path)
+
+  -- a node to which a path leads, of those entries
+  record IsFrom (steps : ℕ) (root : NodeSeen) (es : Entries) : Type 0 where
+    from : NodeSeen
+    same : entries_of from ≡ es
+    path : Down d steps root from
+
+  any-down : {steps : ℕ} {es to : Entries} → any.Down (dir_of d) steps es to → (root : NodeSeen) → entries_of root ≡ es → IsFrom steps root to
+  any-down (any.here es) root same = record { from = root; same = same; path = here root }
+  any-down (any.into_node steps es to entry node has leads path) root same =
+      let its = any-down path node refl in
+      let P : Entries → Type 0 = λ entries. Has entries entry in
       record {
-        entry = first;
-        node = node;
-        has = at_first first rest;
-        leads = leads;
-        then_on =
-            contains-cases number (number_in node.place) (reached d levels node) has;
+        from = its.from;
+        same = its.same;
+        path = into steps root node (its.from) entry (subst P (sym same) (any-has has)) (any-leads entry.bytes node leads) (its.path);
       }
-  in_front levels first rest number (Ok None) leads has = absurd (contains-none number has)
-  in_front levels first rest number (Err refusal) leads has = absurd (contains-none number has)
-
-  reached-on : (levels : ℕ) (es : Entries) (number : ℕ) → Contains (reached_in d (reached d levels) es) number → IsOn levels es number
-  unfolding reached_in
-  reached-on levels [] number has = absurd (contains-none number has)
-  reached-on levels (Err refusal ∷ rest) number has = absurd (contains-none number has)
-  reached-on levels (Ok first ∷ rest) number has =
-      by (Contains-append_cases (reached_sub d (reached d levels) (subnode d 1 false first.bytes))
-      (if is_last first.bytes then [] else reached_in d (reached d levels) rest) number has) (reached-on levels rest number)
-    where
-      behind : (last : Bool) → is_last first.bytes ≡ last → Contains (if last then [] else reached_in d (reached d levels) rest) number
-          → (Contains (reached_in d (reached d levels) rest) number → IsOn levels rest number)
-          → IsOn levels (Ok first ∷ rest) number
-      behind true is has more = absurd (contains-none number has)
-      behind false is has more = let on = more has in
-          record { entry = on.entry; node = on.node; has = later (on.entry) first rest is (on.has); leads = on.leads; then_on = on.then_on }
-
-      by : Contains (reached_sub d (reached d levels) (subnode d 1 false first.bytes)) number
-          ⊎ Contains (if is_last first.bytes then [] else reached_in d (reached d levels) rest) number
-          → (Contains (reached_in d (reached d levels) rest) number → IsOn levels rest number) → IsOn levels (Ok first ∷ rest) number
-      by (inl fore) more = in_front levels first rest number (subnode d 1 false first.bytes) refl fore
-      by (inr back) more = behind (is_last first.bytes) refl back more
-
-  on-reached : (levels : ℕ) (es : Entries) (entry : EntryPlaced) (node : NodeSeen) (number : ℕ) → Has es entry → Leads d entry.bytes node
-      → Contains (number_in node.place ∷ reached d levels node) number
-      → Contains (reached_in d (reached d levels) es) number
-  unfolding reached_in
-  on-reached levels _ _ node number (at_first entry rest) leads has =
-      let P : Result (Option NodeSeen) Refusal
-      → Type 0 = λ r. Contains (reached_sub d (reached d levels) r ++ (if is_last entry.bytes then [] else reached_in d (reached d levels) rest)) number in
-      subst P (sym leads) (Contains-append_left (number_in node.place ∷ reached d levels node) _ number has)
-  on-reached levels _ _ node number (later entry first rest goes there) leads has =
-      let its = on-reached levels rest entry node number there leads has in
-      let P : Bool → Type 0 = λ b. Contains
-      (reached_sub d (reached d levels) (subnode d 1 false first.bytes) ++ (if b then [] else reached_in d (reached d levels) rest)) number in
-      subst P (sym goes) (Contains-append_right (reached_sub d (reached d levels) (subnode d 1 false first.bytes)) _ number its)
 
   pub reached-path : (levels : ℕ) (root : NodeSeen) (number : ℕ) → Contains (reached d levels root) number → Reaches d levels root number
-  unfolding reached
-  reached-path zero root number has = absurd (contains-none number has)
-  reached-path (suc levels) root number has =
-      let on = reached-on levels (entries_of root) number has in
-      by on (on.then_on) (reached-path levels (on.node) number)
-    where
-      by : (on : IsOn levels (entries_of root) number) → (number_in on.node.place ≡ number) ⊎ Contains (reached d levels on.node) number
-          → (Contains (reached d levels on.node) number → Reaches d levels on.node number)
-          → Reaches d (suc levels) root number
-      by on (inl is) more =
-          record { steps = 0; few = omega arith; from = root; entry = on.entry; to = on.node; path = here root; has = on.has; leads = on.leads; is = is }
-      by on (inr there) more =
-          let on_more = more there in
-          let few = on_more.few in
-          record {
-            steps = suc (on_more.steps);
-            few = omega arith;
-            from = on_more.from;
-            entry = on_more.entry;
-            to = on_more.to;
-            path = into (on_more.steps) root (on.node) (on_more.from) (on.entry) (on.has) (on.leads) (on_more.path);
-            has = on_more.has;
-            leads = on_more.leads;
-            is = on_more.is;
-          }
+  reached-path levels root number has =
+      let P : List ℕ → Type 0 = λ xs. Contains xs number in
+      let its = (reached_by_path_in_any_directory (dir_of d) levels (entries_of root) number).0 (subst P (code_reaches_so d levels root) has) in
+      let end = any-down (its.path) root refl in
+      let Q : Entries → Type 0 = λ entries. Has entries its.entry in
+      record {
+        steps = its.steps;
+        few = its.few;
+        from = end.from;
+        entry = its.entry;
+        to = its.to;
+        path = end.path;
+        has = subst Q (sym end.same) (any-has (its.has));
+        leads = any-leads its.entry.bytes its.to (its.leads);
+        is = its.is;
+      }
 
-  path-reached : (levels steps : ℕ) (root from to : NodeSeen) (entry : EntryPlaced) → steps < levels → Down d steps root from → Has (entries_of from) entry
-      → Leads d entry.bytes to
-      → Contains (reached d levels root) (number_in to.place)
-  unfolding reached
-  path-reached zero steps root from to entry few path has leads = absurd (omega arith)
-  path-reached (suc levels) _ _ _ to entry few (here node) has leads =
-      on-reached levels (entries_of node) entry to (number_in to.place) has leads (contains-here (number_in to.place) (reached d levels to))
-  path-reached (suc levels) _ _ _ to entry few (into steps node below from first in_node opens path) has leads =
-      on-reached levels (entries_of node) first below (number_in to.place) in_node opens
-      (contains-there (number_in to.place) (number_in below.place) (reached d levels below)
-      (path-reached levels steps below from to entry (omega arith) path has leads))
+  path-reached : (levels : ℕ) (root : NodeSeen) (number : ℕ) → Reaches d levels root number → Contains (reached d levels root) number
+  path-reached levels root number its =
+      let P : List ℕ → Type 0 = λ xs. Contains xs number in
+      subst P (sym (code_reaches_so d levels root))
+      ((reached_by_path_in_any_directory (dir_of d) levels (entries_of root) number).1
+      (record {
+        steps = its.steps;
+        few = its.few;
+        from = entries_of its.from;
+        entry = its.entry;
+        to = its.to;
+        path = down-any (its.path);
+        has = has-any (its.has);
+        leads = leads-any its.entry.bytes its.to (its.leads);
+        is = its.is;
+      }))
 
 pub reached_by_path : ReachedByPath
-reached_by_path d levels root number = (
-  reached-path d levels root number,
-  λ r.
-      let P : ℕ → Type 0 = λ n. Contains (reached d levels root) n in
-      subst P (r.is) (path-reached d levels (r.steps) root (r.from) (r.to) (r.entry) (r.few) (r.path) (r.has) (r.leads)),
-)
+reached_by_path d levels root number = (reached-path d levels root number, path-reached d levels root number)

@@ -71,7 +71,7 @@ module _ (lent : Lent) {K : Type 0} (kind : Kind K) (marks : List ℕ) where
       ap (check_root kind marks) opens ∙ ap (λ b. if b then refused_at_once MarksTooShort marks else settled (records_in d.allocation) marks (walk d)) test
 
   -- where they do, the marks stay
-  check-refused : (Ready lent marks → ⊥) → (refusal : Refusal) × (check lent kind marks ≡ refused_at_once refusal marks)
+  pub check-refused : (Ready lent marks → ⊥) → (refusal : Refusal) × (check lent kind marks ≡ refused_at_once refusal marks)
   unfolding check
   check-refused not_ready = by (passed lent) refl
     where
@@ -196,7 +196,7 @@ module _ (lent : Lent) {K : Type 0} (kind : Kind K) (marks : List ℕ) where
             ∙ cleared-beyond most marks i (omega arith);
       }
 
-  check-marked : (count : ℕ) → (check lent kind marks).verdict ≡ Ok count → Marked lent marks (check lent kind marks).marks count
+  pub check-marked : (count : ℕ) → (check lent kind marks).verdict ≡ Ok count → Marked lent marks (check lent kind marks).marks count
   unfolding ready-sound
   check-marked count ok =
       let ready = check-ready count ok in
@@ -208,7 +208,7 @@ module _ (lent : Lent) {K : Type 0} (kind : Kind K) (marks : List ℕ) where
       let Q : List ℕ → Type 0 = λ m. Marked lent marks m count in
       subst Q (sym (ap (λ (c : Checked). c.marks) is)) (subst P same (sound-marked sound (ready.no_21)))
 
-  check-cleared : Ready lent marks → (its : Fault) → (check lent kind marks).verdict ≡ Err its → Cleared lent marks (check lent kind marks).marks
+  pub check-cleared : Ready lent marks → (its : Fault) → (check lent kind marks).verdict ≡ Err its → Cleared lent marks (check lent kind marks).marks
   check-cleared ready its broken =
       let d = ready.d in
       let most = records_in d.allocation in

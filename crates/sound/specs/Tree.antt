@@ -1,5 +1,5 @@
 -- A directory as a finite tree: each key can be read and each subnode opened. That it is one, the tree itself shows.
-use Rattle.std.specs.Prelude.{suc, ℕ, ◌≡◌, ◌≤◌, Bool, true, false, List, [], ◌∷◌, ◌++◌, Contains, Some, None, Ok}
+use Rattle.std.specs.Prelude.{suc, ℕ, ◌≡◌, ◌≤◌, true, false, List, [], ◌∷◌, ◌++◌, Contains, Some, None, Ok}
 use Rattle.index_entry.specs.Entry.{is_last, subnode_of}
 use Rattle.collation.specs.Kind.{Kind}
 use Rattle.directory.specs.Answer.{Answered, some, none}
