@@ -55,6 +55,11 @@ module _ (d : Dir) where
       by (Ok None) = refl
       by (Err refusal) = refl
 
+  -- what it takes to lead to a node: a VCN, a pool, and that the VCN leads there
+  pub leads-when : (entry : List ℕ) (vcn : ℤ) (node : NodeSeen) → d.vcn entry ≡ Ok (Some vcn) → d.empty ≡ false → d.opens vcn ≡ Ok node → Leads d entry node
+  unfolding subnode opening
+  leads-when entry vcn node says some opens = rw (says, some, opens) refl
+
 module _ (d : Dir) {K : Type 0} (kind : Kind K) where
   pub tall : {levels : ℕ} {es : Entries} → Tree d kind levels es → (left : ℕ) × (levels ≡ suc left)
   tall (out left) = (left, refl)

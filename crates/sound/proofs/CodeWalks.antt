@@ -1,5 +1,5 @@
 -- What the code walks is a directory as functions give it.
-use Rattle.std.proofs.Common.{zero, suc, ℕ, ℤ, ◌≡◌, ◌+◌, nat_eq, Bool, true, false, List, [], ◌∷◌, ◌++◌, refl, ◌∙◌, ap, if◌then◌else◌}
+use Rattle.std.proofs.Common.{zero, suc, ℕ, ℤ, ◌≡◌, ◌+◌, nat_eq, Bool, true, false, List, [], ◌∷◌, ◌++◌, refl, sym, ◌∙◌, ap, if◌then◌else◌}
 use Rattle.std.proofs.Common.{Option, Some, None, Result, Ok, Err}
 use Rattle.refusal.specs.declared.Refusal.{Refusal}
 use Rattle.refusal.specs.declared.Refusal.TheVariants.{SubnodeWithoutPool, TooManyLevels, AllowanceSpent}
@@ -16,6 +16,7 @@ use Rattle.index.specs.Listing.{Listing, stop, and_then, list_subnode, list_entr
 use Rattle.sound.specs.AnyDirectory as any
 use Rattle.sound.specs.AnyDirectory.{Dir, no_pool, dir_of, CodeListsSo, CodeFindsSoFor, CodeFindsSoForAnyKind, CodeReachesSo, CodeWalksSo}
 use Rattle.sound.specs.Fit.{number_in, reached_sub, reached_in, reached}
+use Rattle.sound.specs.Tree.{Leads}
 use Rattle.sound.proofs.Keys.{stands-none}
 
 module _ (p : Passed) where
@@ -50,6 +51,13 @@ module _ (p : Passed) where
       by (Ok (Some vcn)) = ap (λ r. r >>= λ node. Ok (Some node)) (opening-same left spent vcn)
       by (Ok None) = refl
       by (Err refusal) = refl
+
+  -- so an entry leads to the same nodes
+  pub leads-any : (entry : List ℕ) (node : NodeSeen) → Leads p entry node → any.Leads its_dir entry node
+  leads-any entry node leads = sym (subnode-same 1 false entry) ∙ leads
+
+  pub any-leads : (entry : List ℕ) (node : NodeSeen) → any.Leads its_dir entry node → Leads p entry node
+  any-leads entry node leads = subnode-same 1 false entry ∙ leads
 
   -- a node is listed alike where its entries' subnodes are
   list_subnode-same : (one other : Entries → ℕ → Listing) → ((es : Entries) (o : ℕ) → one es o ≡ other es o)

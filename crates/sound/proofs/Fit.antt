@@ -19,7 +19,7 @@ use Rattle.sound.specs.Tree.{Leads, items}
 use Rattle.sound.specs.AnyDirectory as any
 use Rattle.sound.specs.AnyDirectory.{dir_of}
 use Rattle.sound.proofs.AnyPaths.{reached_by_path_in_any_directory}
-use Rattle.sound.proofs.CodeWalks.{subnode-same, code_reaches_so}
+use Rattle.sound.proofs.CodeWalks.{leads-any, any-leads, code_reaches_so}
 use Rattle.sound.proofs.Keys.{is-named}
 use Rattle.sound.proofs.Subnodes.{subnode-lone, leads-not}
 use Rattle.sound.proofs.Tree.{tree-ends, yielded-lists, keys_of-items}
@@ -193,16 +193,10 @@ module _ (d : Passed) where
   any-has (any.at_first entry rest) = at_first entry rest
   any-has (any.later entry first rest goes there) = later entry first rest goes (any-has there)
 
-  leads-any : (entry : List ℕ) (node : NodeSeen) → Leads d entry node → any.Leads (dir_of d) entry node
-  leads-any entry node leads = sym (subnode-same d 1 false entry) ∙ leads
-
-  any-leads : (entry : List ℕ) (node : NodeSeen) → any.Leads (dir_of d) entry node → Leads d entry node
-  any-leads entry node leads = subnode-same d 1 false entry ∙ leads
-
   down-any : {steps : ℕ} {root to : NodeSeen} → Down d steps root to → any.Down (dir_of d) steps (entries_of root) (entries_of to)
   down-any (here node) = any.here (entries_of node)
   down-any (into steps node below to entry has leads path) =
-      any.into_node steps (entries_of node) (entries_of to) entry below (has-any has) (leads-any entry.bytes below leads) (down-any path)
+      any.into_node steps (entries_of node) (entries_of to) entry below (has-any has) (leads-any d entry.bytes below leads) (down-any path)
 
   -- a node to which a path leads, of those entries
   record IsFrom (steps : ℕ) (root : NodeSeen) (es : Entries) : Type 0 where
@@ -218,7 +212,7 @@ module _ (d : Passed) where
       record {
         from = its.from;
         same = its.same;
-        path = into steps root node (its.from) entry (subst P (sym same) (any-has has)) (any-leads entry.bytes node leads) (its.path);
+        path = into steps root node (its.from) entry (subst P (sym same) (any-has has)) (any-leads d entry.bytes node leads) (its.path);
       }
 
   pub reached-path : (levels : ℕ) (root : NodeSeen) (number : ℕ) → Contains (reached d levels root) number → Reaches d levels root number
@@ -235,7 +229,7 @@ module _ (d : Passed) where
         to = its.to;
         path = end.path;
         has = subst Q (sym end.same) (any-has (its.has));
-        leads = any-leads its.entry.bytes its.to (its.leads);
+        leads = any-leads d its.entry.bytes its.to (its.leads);
         is = its.is;
       }
 
@@ -252,7 +246,7 @@ module _ (d : Passed) where
         to = its.to;
         path = down-any (its.path);
         has = has-any (its.has);
-        leads = leads-any its.entry.bytes its.to (its.leads);
+        leads = leads-any d its.entry.bytes its.to (its.leads);
         is = its.is;
       }))
 

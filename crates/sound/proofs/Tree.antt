@@ -6,7 +6,7 @@ use Rattle.index_entry.specs.Entry.{key_of}
 use Rattle.collation.specs.Kind.{Kind}
 use Rattle.directory.specs.Answer.{Answered, none}
 use Rattle.directory.specs.Directory.{spent_at}
-use Rattle.directory.specs.Lent.{Passed, EntryPlaced, NodeSeen}
+use Rattle.directory.specs.Lent.{Passed, EntryPlaced}
 use Rattle.directory.specs.Node.{Entries}
 use Rattle.index_finder.specs.Find.{find_below}
 use Rattle.index.specs.Listing.{Listing, list_node}
@@ -14,13 +14,13 @@ use Rattle.index_run.proofs.Remaining.{list_down, list_below-node}
 use Rattle.sound.specs.Fit.{yielded}
 use Rattle.sound.specs.Keys.{read_as, key_read, keys_of, NeverFall}
 use Rattle.index_run.specs.More.{never}
-use Rattle.sound.specs.Tree.{Leads, Tree, out, end, down, leaf, fork, items, keys, Lists, lists_none, lists_one, Searched, hit, miss, TreeListed}
+use Rattle.sound.specs.Tree.{Tree, out, end, down, leaf, fork, items, keys, Lists, lists_none, lists_one, Searched, hit, miss, TreeListed}
 use Rattle.sound.specs.Tree.{TreeListedFor, TreeListedForAnyKind, NoneLost, NoneLostFor, NoneLostForAnyKind}
 use Rattle.sound.specs.AnyDirectory as any
 use Rattle.sound.specs.AnyDirectory.{dir_of}
 use Rattle.sound.proofs.AnyDirectory as in_any
 use Rattle.sound.proofs.AnyDirectory.{Ends, spent-late}
-use Rattle.sound.proofs.CodeWalks.{subnode-same, code_lists_so, code_finds_so_for}
+use Rattle.sound.proofs.CodeWalks.{leads-any, code_lists_so, code_finds_so_for}
 use Rattle.sound.proofs.Keys.{is-named, keys_of-named, keys_of-append}
 
 pub yielded-lists : {l : Listing} {xs : List EntryPlaced} {n : ℕ} → Lists l xs n → yielded l ≡ xs
@@ -29,9 +29,6 @@ yielded-lists (lists_none o) = refl
 yielded-lists (lists_one entry o rest xs n its) = ap (λ more. entry ∷ more) (yielded-lists its)
 
 module _ (d : Passed) {K : Type 0} (kind : Kind K) where
-  leads-same : (entry : List ℕ) (node : NodeSeen) → Leads d entry node → any.Leads (dir_of d) entry node
-  leads-same entry node leads = sym (subnode-same d 1 false entry) ∙ leads
-
   read-same : (entry : List ℕ) (name : K) → key_read kind entry ≡ Ok (Some name) → read_as kind (key_of entry) ≡ Ok (Some name)
   unfolding key_read
   read-same entry name named = named
@@ -40,12 +37,12 @@ module _ (d : Passed) {K : Type 0} (kind : Kind K) where
   abbrev wide : {left : ℕ} {es : Entries} → Tree d kind left es → any.Tree (dir_of d) kind (suc left) es
   wide (out left) = any.out left
   wide (end left entry rest last alone) = any.end left entry rest last alone
-  wide (down left entry rest last node leads below) = any.down (suc left) entry rest last node (leads-same entry.bytes node leads) (wide below)
+  wide (down left entry rest last node leads below) = any.down (suc left) entry rest last node (leads-any d entry.bytes node leads) (wide below)
   wide (leaf left entry rest name named alone more) =
       any.leaf left entry rest name ((is-named kind entry.bytes name named).goes_on) (read-same entry.bytes name named) alone (wide more)
   wide (fork left entry rest name named node leads below more) =
       any.fork (suc left) entry rest name ((is-named kind entry.bytes name named).goes_on) (read-same entry.bytes name named) node
-      (leads-same entry.bytes node leads) (wide below) (wide more)
+      (leads-any d entry.bytes node leads) (wide below) (wide more)
 
   wide-items : {left : ℕ} {es : Entries} (t : Tree d kind left es) → any.items (wide t) ≡ items t
   wide-items (out left) = refl
