@@ -14,8 +14,8 @@ use Rattle.directory.specs.Node.{Entries}
 use Rattle.index_finder.specs.Find.{stands_to, choose}
 use Rattle.index.specs.Listing.{Listing, and_then, list_entry}
 use Rattle.index_run.specs.More.{never}
-use Rattle.sound.specs.AnyDirectory.{Dir, opening, opening_of, subnode, Leads, list_subnode, list_node, list, into, stands_at, find}
-use Rattle.sound.specs.AnyDirectory.{Tree, out, end, down, leaf, fork, items, keys, Searched, hit, miss}
+use Rattle.sound.specs.AnyDirectory.{Dir, opening, opening_of, subnode, LeadsIn, list_subnode, list_node, list, into, stands_at, find}
+use Rattle.sound.specs.AnyDirectory.{TreeIn, out, end, down, leaf, fork, items_in, keys_in, SearchedIn, hit, miss}
 use Rattle.sound.specs.AnyDirectory.{TreeListedInAnyDirectory, TreeListedInAnyDirectoryFor, TreeListedInAnyDirectoryForAnyKind}
 use Rattle.sound.specs.AnyDirectory.{NoneLostInAnyDirectory, NoneLostInAnyDirectoryFor, NoneLostInAnyDirectoryForAnyKind}
 use Rattle.sound.specs.Keys.{read_as, NeverFall, NoneEqual}
@@ -46,7 +46,7 @@ module _ (d : Dir) where
   unfolding subnode
   subnode-lone left spent entry alone = ap (opening_of d left spent) alone
 
-  pub leads-opens : (left : ℕ) (entry : List ℕ) (node : NodeSeen) → Leads d entry node → subnode d (suc left) false entry ≡ Ok (Some node)
+  pub leads-opens : (left : ℕ) (entry : List ℕ) (node : NodeSeen) → LeadsIn d entry node → subnode d (suc left) false entry ≡ Ok (Some node)
   unfolding subnode opening
   leads-opens left entry node leads = by (d.vcn entry) ∙ leads
     where
@@ -56,12 +56,12 @@ module _ (d : Dir) where
       by (Err refusal) = refl
 
   -- what it takes to lead to a node: a VCN, a pool, and that the VCN leads there
-  pub leads-when : (entry : List ℕ) (vcn : ℤ) (node : NodeSeen) → d.vcn entry ≡ Ok (Some vcn) → d.empty ≡ false → d.opens vcn ≡ Ok node → Leads d entry node
+  pub leads-when : (entry : List ℕ) (vcn : ℤ) (node : NodeSeen) → d.vcn entry ≡ Ok (Some vcn) → d.empty ≡ false → d.opens vcn ≡ Ok node → LeadsIn d entry node
   unfolding subnode opening
   leads-when entry vcn node says some opens = rw (says, some, opens) refl
 
 module _ (d : Dir) {K : Type 0} (kind : Kind K) where
-  pub tall : {levels : ℕ} {es : Entries} → Tree d kind levels es → (left : ℕ) × (levels ≡ suc left)
+  pub tall : {levels : ℕ} {es : Entries} → TreeIn d kind levels es → (left : ℕ) × (levels ≡ suc left)
   tall (out left) = (left, refl)
   tall (end left entry rest last alone) = (left, refl)
   tall (down left entry rest last node leads below) = (left, refl)
@@ -69,7 +69,7 @@ module _ (d : Dir) {K : Type 0} (kind : Kind K) where
   tall (fork left entry rest name goes named node leads below more) = (left, refl)
 
   -- above a tree what leads to a node may be opened
-  pub opens-tree : {levels : ℕ} {es : Entries} → Tree d kind levels es → (entry : List ℕ) (node : NodeSeen) → Leads d entry node
+  pub opens-tree : {levels : ℕ} {es : Entries} → TreeIn d kind levels es → (entry : List ℕ) (node : NodeSeen) → LeadsIn d entry node
       → subnode d levels false entry ≡ Ok (Some node)
   opens-tree t entry node leads =
       let its = tall t in ap (λ n. subnode d n false entry) (its.1) ∙ leads-opens d (its.0) entry node leads
@@ -105,21 +105,21 @@ module _ (d : Dir) {K : Type 0} (kind : Kind K) where
       subst P (sym leads) (ends-then (its.1) ys _ more)
 
   -- the listing yields the tree's entries
-  pub tree-ends : {levels : ℕ} {es : Entries} (t : Tree d kind levels es) (o : ℕ) → Ends (list d never levels es o) (items t)
+  pub tree-ends : {levels : ℕ} {es : Entries} (t : TreeIn d kind levels es) (o : ℕ) → Ends (list d never levels es o) (items_in t)
   unfolding list
   tree-ends (out left) o = (o, lists_none o)
   tree-ends (end left entry rest last alone) o = here-ends left entry rest o [] alone (last-ends entry (λ x. list_node d (list_at left) rest x) o last)
   tree-ends (down left entry rest last node leads below) o =
       let P : List EntryPlaced → Type 0 = λ xs. Ends (list_node d (list_at left) (Ok entry ∷ rest) o) xs in
-      subst P (append-nil (items below))
-      (below-ends left entry rest node o (items below) [] (opens-tree below entry.bytes node leads) (tree-ends below (o + 1))
+      subst P (append-nil (items_in below))
+      (below-ends left entry rest node o (items_in below) [] (opens-tree below entry.bytes node leads) (tree-ends below (o + 1))
       (λ x. last-ends entry (λ y. list_node d (list_at left) rest y) x last))
   tree-ends (leaf left entry rest name goes named alone more) o =
-      here-ends left entry rest o (entry ∷ items more) alone
-      (named-ends entry (λ x. list_node d (list_at left) rest x) (items more) o goes (tree-ends more o))
+      here-ends left entry rest o (entry ∷ items_in more) alone
+      (named-ends entry (λ x. list_node d (list_at left) rest x) (items_in more) o goes (tree-ends more o))
   tree-ends (fork left entry rest name goes named node leads below more) o =
-      below-ends left entry rest node o (items below) (entry ∷ items more) (opens-tree below entry.bytes node leads) (tree-ends below (o + 1))
-      (λ x. named-ends entry (λ y. list_node d (list_at left) rest y) (items more) x goes (tree-ends more x))
+      below-ends left entry rest node o (items_in below) (entry ∷ items_in more) (opens-tree below entry.bytes node leads) (tree-ends below (o + 1))
+      (λ x. named-ends entry (λ y. list_node d (list_at left) rest y) (items_in more) x goes (tree-ends more x))
 
   module _ (sought : K) where
     stands-some : (entry : List ℕ) (name : K) → d.last entry ≡ false → read_as kind (d.key entry) ≡ Ok (Some name)
@@ -154,37 +154,37 @@ module _ (d : Dir) {K : Type 0} (kind : Kind K) where
       found-over left o = refl
 
       -- above a tree what leads to a node is opened
-      opened-then : {levels : ℕ} {es : Entries} → Tree d kind levels es → (entry : List ℕ) (node : NodeSeen) (o : ℕ) → o + suc levels ≤ suc most
-          → Leads d entry node → subnode d levels (spent o) entry ≡ Ok (Some node)
+      opened-then : {levels : ℕ} {es : Entries} → TreeIn d kind levels es → (entry : List ℕ) (node : NodeSeen) (o : ℕ) → o + suc levels ≤ suc most
+          → LeadsIn d entry node → subnode d levels (spent o) entry ≡ Ok (Some node)
       opened-then {levels} t entry node o few leads =
           let its = tall t in let same = its.1 in
           ap (λ b. subnode d levels b entry) (fresh o (omega arith)) ∙ opens-tree t entry node leads
 
-      searched-same : (xs : List EntryPlaced) (ks : List K) (answer other : Answered) → other ≡ answer → Searched d kind sought xs ks answer
-          → Searched d kind sought xs ks other
-      searched-same xs ks answer other same its = let P : Answered → Type 0 = λ a. Searched d kind sought xs ks a in subst P (sym same) its
+      searched-same : (xs : List EntryPlaced) (ks : List K) (answer other : Answered) → other ≡ answer → SearchedIn d kind sought xs ks answer
+          → SearchedIn d kind sought xs ks other
+      searched-same xs ks answer other same its = let P : Answered → Type 0 = λ a. SearchedIn d kind sought xs ks a in subst P (sym same) its
 
       -- a lookup at a named entry, given what was searched in front of it and behind it
       named-searched : (entry : EntryPlaced) (name : K) (o : ℕ) (next low : Answered) (fore back : List EntryPlaced) (before after : List K)
           → read_as kind (d.key entry.bytes) ≡ Ok (Some name)
-          → Searched d kind sought back after next → Searched d kind sought fore before low
+          → SearchedIn d kind sought back after next → SearchedIn d kind sought fore before low
           → (kind.order sought name ≡ Greater → NoneEqual kind.order sought before)
           → (kind.order sought name ≡ Less → NoneEqual kind.order sought after)
-          → Searched d kind sought (fore ++ entry ∷ back) (before ++ name ∷ after) (choose (Ok (kind.order sought name)) entry o next low)
+          → SearchedIn d kind sought (fore ++ entry ∷ back) (before ++ name ∷ after) (choose (Ok (kind.order sought name)) entry o next low)
       named-searched entry name o next low fore back before after named nexts lows greater less = by (kind.order sought name) refl
         where
           not_equal : (r : Ordering) → (r ≡ Equal → ⊥) → kind.order sought name ≡ r → kind.order sought name ≡ Equal → ⊥
           not_equal r not is same = not (sym is ∙ same)
 
-          went_low : kind.order sought name ≡ Less → Searched d kind sought fore before low
-              → Searched d kind sought (fore ++ entry ∷ back) (before ++ name ∷ after) low
+          went_low : kind.order sought name ≡ Less → SearchedIn d kind sought fore before low
+              → SearchedIn d kind sought (fore ++ entry ∷ back) (before ++ name ∷ after) low
           went_low is (hit found x its has equal) = hit found x its (Contains-append_left fore (entry ∷ back) found has) equal
           went_low is (miss x its none) =
               miss x its (none-append kind.order sought before (name ∷ after) none
               (none-cons kind.order sought name after (not_equal Less (λ same. let P : ⊥ = cc in P) is) (less is)))
 
-          went_on : kind.order sought name ≡ Greater → Searched d kind sought back after next
-              → Searched d kind sought (fore ++ entry ∷ back) (before ++ name ∷ after) next
+          went_on : kind.order sought name ≡ Greater → SearchedIn d kind sought back after next
+              → SearchedIn d kind sought (fore ++ entry ∷ back) (before ++ name ∷ after) next
           went_on is (hit found x its has equal) =
               hit found x its (Contains-append_right fore (entry ∷ back) found (contains-there found entry back has)) equal
           went_on is (miss x its none) =
@@ -192,45 +192,45 @@ module _ (d : Dir) {K : Type 0} (kind : Kind K) where
               (none-cons kind.order sought name after (not_equal Greater (λ same. let P : ⊥ = cc in P) is) none))
 
           by : (r : Ordering) → kind.order sought name ≡ r
-              → Searched d kind sought (fore ++ entry ∷ back) (before ++ name ∷ after) (choose (Ok r) entry o next low)
+              → SearchedIn d kind sought (fore ++ entry ∷ back) (before ++ name ∷ after) (choose (Ok r) entry o next low)
           by Less is = went_low is lows
           by Equal is = hit entry o refl (Contains-append_right fore (entry ∷ back) entry (contains-here entry back)) (name, named, is)
           by Greater is = went_on is nexts
 
       -- the lookup searches the tree's names
-      pub tree-finds : {levels : ℕ} {es : Entries} (t : Tree d kind levels es) (o : ℕ) (before : Option K) → o + levels ≤ suc most
-          → NeverFall kind.order before (keys t)
-          → Searched d kind sought (items t) (keys t) (find d spent kind sought levels es o)
+      pub tree-finds : {levels : ℕ} {es : Entries} (t : TreeIn d kind levels es) (o : ℕ) (before : Option K) → o + levels ≤ suc most
+          → NeverFall kind.order before (keys_in t)
+          → SearchedIn d kind sought (items_in t) (keys_in t) (find d spent kind sought levels es o)
       tree-finds (out left) o before few rises = miss o (found-over left o) (none-nil kind.order sought)
       tree-finds (end left entry rest last alone) o before few rises =
           miss o (found-at left entry rest o (Ok Less) (Ok None) (ap (λ b. stands_at d kind sought b entry.bytes) last)
           (subnode-lone d left (spent o) entry.bytes alone))
           (none-nil kind.order sought)
       tree-finds (down left entry rest last node leads below) o before few rises =
-          searched-same (items below) (keys below) (find d spent kind sought left (d.entries node) (o + 1))
+          searched-same (items_in below) (keys_in below) (find d spent kind sought left (d.entries node) (o + 1))
           (find d spent kind sought (suc left) (Ok entry ∷ rest) o)
           (found-at left entry rest o (Ok Less) (Ok (Some node)) (ap (λ b. stands_at d kind sought b entry.bytes) last)
           (opened-then below entry.bytes node o few leads))
           (tree-finds below (o + 1) before (omega arith) rises)
       tree-finds (leaf left entry rest name goes named alone more) o before few rises =
-          searched-same (entry ∷ items more) (name ∷ keys more) _ (find d spent kind sought (suc left) (Ok entry ∷ rest) o)
+          searched-same (entry ∷ items_in more) (name ∷ keys_in more) _ (find d spent kind sought (suc left) (Ok entry ∷ rest) o)
           (found-at left entry rest o (Ok (kind.order sought name)) (Ok None) (stands-some entry.bytes name goes named)
           (subnode-lone d left (spent o) entry.bytes alone))
-          (named-searched entry name o (find d spent kind sought (suc left) rest o) (none o) [] (items more) [] (keys more) named
+          (named-searched entry name o (find d spent kind sought (suc left) rest o) (none o) [] (items_in more) [] (keys_in more) named
           (tree-finds more o (Some name) few (rises.1))
           (miss o refl (none-nil kind.order sought)) (λ greater. none-nil kind.order sought)
-          (λ less. none-from kind.order total sought name (keys more) less (rises-from kind.order total name (keys more) (rises.1))))
+          (λ less. none-from kind.order total sought name (keys_in more) less (rises-from kind.order total name (keys_in more) (rises.1))))
       tree-finds (fork left entry rest name goes named node leads below more) o before few rises =
-          let behind = rises-back kind.order before (keys below) name (keys more) rises in
+          let behind = rises-back kind.order before (keys_in below) name (keys_in more) rises in
           let low = find d spent kind sought left (d.entries node) (o + 1) in
-          searched-same (items below ++ entry ∷ items more) (keys below ++ name ∷ keys more) _ (find d spent kind sought (suc left) (Ok entry ∷ rest) o)
+          searched-same (items_in below ++ entry ∷ items_in more) (keys_in below ++ name ∷ keys_in more) _ (find d spent kind sought (suc left) (Ok entry ∷ rest) o)
           (found-at left entry rest o (Ok (kind.order sought name)) (Ok (Some node)) (stands-some entry.bytes name goes named)
           (opened-then below entry.bytes node o few leads))
-          (named-searched entry name o (find d spent kind sought (suc left) rest o) low (items below) (items more) (keys below) (keys more) named
+          (named-searched entry name o (find d spent kind sought (suc left) rest o) low (items_in below) (items_in more) (keys_in below) (keys_in more) named
           (tree-finds more o (Some name) few behind)
-          (tree-finds below (o + 1) before (omega arith) (rises-front kind.order before (keys below) name (keys more) rises))
-          (λ greater. none-to kind.order total sought name (keys below) greater (rises-to kind.order total before (keys below) name (keys more) rises))
-          (λ less. none-from kind.order total sought name (keys more) less (rises-from kind.order total name (keys more) behind)))
+          (tree-finds below (o + 1) before (omega arith) (rises-front kind.order before (keys_in below) name (keys_in more) rises))
+          (λ greater. none-to kind.order total sought name (keys_in below) greater (rises-to kind.order total before (keys_in below) name (keys_in more) rises))
+          (λ less. none-from kind.order total sought name (keys_in more) less (rises-from kind.order total name (keys_in more) behind)))
 
 pub tree_listed_in_any_directory_for : {K : Type 0} (kind : Kind K) → TreeListedInAnyDirectoryFor kind
 tree_listed_in_any_directory_for kind d levels es t = tree-ends d kind t 0

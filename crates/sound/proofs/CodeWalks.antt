@@ -53,10 +53,10 @@ module _ (p : Passed) where
       by (Err refusal) = refl
 
   -- so an entry leads to the same nodes
-  pub leads-any : (entry : List ℕ) (node : NodeSeen) → Leads p entry node → any.Leads its_dir entry node
+  pub leads-any : (entry : List ℕ) (node : NodeSeen) → Leads p entry node → any.LeadsIn its_dir entry node
   leads-any entry node leads = sym (subnode-same 1 false entry) ∙ leads
 
-  pub any-leads : (entry : List ℕ) (node : NodeSeen) → any.Leads its_dir entry node → Leads p entry node
+  pub any-leads : (entry : List ℕ) (node : NodeSeen) → any.LeadsIn its_dir entry node → Leads p entry node
   any-leads entry node leads = subnode-same 1 false entry ∙ leads
 
   -- a node is listed alike where its entries' subnodes are
@@ -121,24 +121,24 @@ module _ (p : Passed) where
 
   -- the records reached
   reached_sub-same : (one : NodeSeen → List ℕ) (other : Entries → List ℕ) → ((node : NodeSeen) → one node ≡ other (entries_of node))
-      → (r : Result (Option NodeSeen) Refusal) → reached_sub p one r ≡ any.reached_sub its_dir other r
+      → (r : Result (Option NodeSeen) Refusal) → reached_sub p one r ≡ any.reached_below its_dir other r
   reached_sub-same one other same (Ok (Some node)) = ap (λ xs. number_in node.place ∷ xs) (same node)
   reached_sub-same one other same (Ok None) = refl
   reached_sub-same one other same (Err refusal) = refl
 
   reached_in-same : (one : NodeSeen → List ℕ) (other : Entries → List ℕ) → ((node : NodeSeen) → one node ≡ other (entries_of node))
-      → (es : Entries) → reached_in p one es ≡ any.reached_in its_dir other es
-  unfolding reached_in any.reached_in
+      → (es : Entries) → reached_in p one es ≡ any.reached_at its_dir other es
+  unfolding reached_in any.reached_at
   reached_in-same one other same [] = refl
   reached_in-same one other same (Err refusal ∷ rest) = refl
   reached_in-same one other same (Ok entry ∷ rest) =
-      let sub = reached_sub-same one other same (subnode p 1 false entry.bytes) ∙ ap (any.reached_sub its_dir other) (subnode-same 1 false entry.bytes) in
+      let sub = reached_sub-same one other same (subnode p 1 false entry.bytes) ∙ ap (any.reached_below its_dir other) (subnode-same 1 false entry.bytes) in
       λ i. sub i ++ (if is_last entry.bytes then [] else reached_in-same one other same rest i)
 
-  reaches-same : (levels : ℕ) (node : NodeSeen) → reached p levels node ≡ any.reached its_dir levels (entries_of node)
-  unfolding reached any.reached
+  reaches-same : (levels : ℕ) (node : NodeSeen) → reached p levels node ≡ any.reached_within its_dir levels (entries_of node)
+  unfolding reached any.reached_within
   reaches-same zero node = refl
-  reaches-same (suc levels) node = reached_in-same (reached p levels) (any.reached its_dir levels) (reaches-same levels) (entries_of node)
+  reaches-same (suc levels) node = reached_in-same (reached p levels) (any.reached_within its_dir levels) (reaches-same levels) (entries_of node)
 
 pub code_lists_so : CodeListsSo
 code_lists_so p spent left es o = lists-same p spent left es o

@@ -185,15 +185,15 @@ module _ (d : Passed) {K : Type 0} (kind : Kind K) where
 
 -- the records reached are those that a path leads to
 module _ (d : Passed) where
-  has-any : {es : Entries} {entry : EntryPlaced} → Has es entry → any.Has (dir_of d) es entry
+  has-any : {es : Entries} {entry : EntryPlaced} → Has es entry → any.HasIn (dir_of d) es entry
   has-any (at_first entry rest) = any.at_first entry rest
   has-any (later entry first rest goes there) = any.later entry first rest goes (has-any there)
 
-  any-has : {es : Entries} {entry : EntryPlaced} → any.Has (dir_of d) es entry → Has es entry
+  any-has : {es : Entries} {entry : EntryPlaced} → any.HasIn (dir_of d) es entry → Has es entry
   any-has (any.at_first entry rest) = at_first entry rest
   any-has (any.later entry first rest goes there) = later entry first rest goes (any-has there)
 
-  down-any : {steps : ℕ} {root to : NodeSeen} → Down d steps root to → any.Down (dir_of d) steps (entries_of root) (entries_of to)
+  down-any : {steps : ℕ} {root to : NodeSeen} → Down d steps root to → any.DownIn (dir_of d) steps (entries_of root) (entries_of to)
   down-any (here node) = any.here (entries_of node)
   down-any (into steps node below to entry has leads path) =
       any.into_node steps (entries_of node) (entries_of to) entry below (has-any has) (leads-any d entry.bytes below leads) (down-any path)
@@ -204,7 +204,7 @@ module _ (d : Passed) where
     same : entries_of from ≡ es
     path : Down d steps root from
 
-  any-down : {steps : ℕ} {es to : Entries} → any.Down (dir_of d) steps es to → (root : NodeSeen) → entries_of root ≡ es → IsFrom steps root to
+  any-down : {steps : ℕ} {es to : Entries} → any.DownIn (dir_of d) steps es to → (root : NodeSeen) → entries_of root ≡ es → IsFrom steps root to
   any-down (any.here es) root same = record { from = root; same = same; path = here root }
   any-down (any.into_node steps es to entry node has leads path) root same =
       let its = any-down path node refl in

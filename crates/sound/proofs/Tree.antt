@@ -34,7 +34,7 @@ module _ (d : Passed) {K : Type 0} (kind : Kind K) where
   read-same entry name named = named
 
   -- the same tree in the directory as functions give it
-  abbrev wide : {left : ℕ} {es : Entries} → Tree d kind left es → any.Tree (dir_of d) kind (suc left) es
+  abbrev wide : {left : ℕ} {es : Entries} → Tree d kind left es → any.TreeIn (dir_of d) kind (suc left) es
   wide (out left) = any.out left
   wide (end left entry rest last alone) = any.end left entry rest last alone
   wide (down left entry rest last node leads below) = any.down (suc left) entry rest last node (leads-any d entry.bytes node leads) (wide below)
@@ -44,14 +44,14 @@ module _ (d : Passed) {K : Type 0} (kind : Kind K) where
       any.fork (suc left) entry rest name ((is-named kind entry.bytes name named).goes_on) (read-same entry.bytes name named) node
       (leads-any d entry.bytes node leads) (wide below) (wide more)
 
-  wide-items : {left : ℕ} {es : Entries} (t : Tree d kind left es) → any.items (wide t) ≡ items t
+  wide-items : {left : ℕ} {es : Entries} (t : Tree d kind left es) → any.items_in (wide t) ≡ items t
   wide-items (out left) = refl
   wide-items (end left entry rest last alone) = refl
   wide-items (down left entry rest last node leads below) = wide-items below
   wide-items (leaf left entry rest name named alone more) = ap (λ xs. entry ∷ xs) (wide-items more)
   wide-items (fork left entry rest name named node leads below more) = λ i. wide-items below i ++ entry ∷ wide-items more i
 
-  wide-keys : {left : ℕ} {es : Entries} (t : Tree d kind left es) → any.keys (wide t) ≡ keys t
+  wide-keys : {left : ℕ} {es : Entries} (t : Tree d kind left es) → any.keys_in (wide t) ≡ keys t
   wide-keys (out left) = refl
   wide-keys (end left entry rest last alone) = refl
   wide-keys (down left entry rest last node leads below) = wide-keys below
@@ -61,7 +61,7 @@ module _ (d : Passed) {K : Type 0} (kind : Kind K) where
   -- the listing yields the tree's entries
   pub tree-ends : {left : ℕ} {es : Entries} (t : Tree d kind left es) (o : ℕ) → Ends (list_node (list_down d never left) es o) (items t)
   tree-ends {left} {es} t o =
-      let P : Listing → Type 0 = λ l. Ends l (any.items (wide t)) in
+      let P : Listing → Type 0 = λ l. Ends l (any.items_in (wide t)) in
       let Q : List EntryPlaced → Type 0 = λ xs. Ends (list_node (list_down d never left) es o) xs in
       subst Q (wide-items t)
       (subst P (sym (code_lists_so d never left es o) ∙ list_below-node d never left es o) (in_any.tree-ends (dir_of d) kind (wide t) o))
@@ -79,7 +79,7 @@ module _ (d : Passed) {K : Type 0} (kind : Kind K) where
       ∙ ap (λ xs. keys below ++ xs) (keys_of-named kind entry (items more) name named ∙ ap (λ xs. name ∷ xs) (keys_of-items more))
 
   module _ (sought : K) (total : IsTotalOrder kind.order) (most : ℕ) (spent : ℕ → Bool) (fresh : (o : ℕ) → o < most → spent o ≡ false) where
-    narrow : {xs : List EntryPlaced} {ks : List K} {answer : Answered} → any.Searched (dir_of d) kind sought xs ks answer → Searched kind sought xs ks answer
+    narrow : {xs : List EntryPlaced} {ks : List K} {answer : Answered} → any.SearchedIn (dir_of d) kind sought xs ks answer → Searched kind sought xs ks answer
     unfolding key_read
     narrow (any.hit entry o is has equal) = hit entry o is has equal
     narrow (any.miss o is none) = miss o is none
@@ -88,8 +88,8 @@ module _ (d : Passed) {K : Type 0} (kind : Kind K) where
     pub tree-finds : {left : ℕ} {es : Entries} (t : Tree d kind left es) (o : ℕ) (before : Option K) → o + left ≤ most → NeverFall kind.order before (keys t)
         → Searched kind sought (items t) (keys t) (find_below d spent kind sought left es o)
     tree-finds {left} {es} t o before few rises =
-        let P : Answered → Type 0 = λ a. Searched kind sought (any.items (wide t)) (any.keys (wide t)) a in
-        let Q : List EntryPlaced → Type 0 = λ xs. Searched kind sought xs (any.keys (wide t)) (find_below d spent kind sought left es o) in
+        let P : Answered → Type 0 = λ a. Searched kind sought (any.items_in (wide t)) (any.keys_in (wide t)) a in
+        let Q : List EntryPlaced → Type 0 = λ xs. Searched kind sought xs (any.keys_in (wide t)) (find_below d spent kind sought left es o) in
         let R : List K → Type 0 = λ ks. Searched kind sought (items t) ks (find_below d spent kind sought left es o) in
         let N : List K → Type 0 = NeverFall kind.order before in
         let its = in_any.tree-finds (dir_of d) kind sought total most spent fresh (wide t) o before (omega arith) (subst N (sym (wide-keys t)) rises) in

@@ -17,8 +17,7 @@ use Rattle.directory.specs.Node.{Entries, entries_of}
 use Rattle.index.specs.Listing.{Listing, done, stop, and_then, list_entry, list_below}
 use Rattle.index_finder.specs.Find.{stands_to, find_node, find_below}
 use Rattle.index_run.specs.More.{never}
-use Rattle.sound.specs.Fit as fit
-use Rattle.sound.specs.Fit.{number_in}
+use Rattle.sound.specs.Fit.{number_in, reached}
 use Rattle.sound.specs.Keys.{read_as, NeverFall, NoneEqual}
 use Rattle.sound.specs.Tree.{Lists}
 
@@ -58,8 +57,8 @@ module _ (d : Dir) where
   subnode left spent entry = opening_of left spent (d.vcn entry)
 
   -- one that shows no refusal
-  abbrev pub Leads : List ℕ → NodeSeen → Type 0
-  Leads entry node = subnode 1 false entry ≡ Ok (Some node)
+  abbrev pub LeadsIn : List ℕ → NodeSeen → Type 0
+  LeadsIn entry node = subnode 1 false entry ≡ Ok (Some node)
 
   -- the listing: of each entry its subnode first, then the entry; a LAST_ENTRY is not listed, and nothing follows it
   abbrev pub list_subnode : (Entries → ℕ → Listing) → Result (Option NodeSeen) Refusal → ℕ → Listing
@@ -94,89 +93,89 @@ module _ (d : Dir) where
       (λ entry x. into (λ below y. find spent kind sought left below y) (subnode left (spent x) entry) x) es o
 
   -- an entry of these; none stands behind a LAST_ENTRY
-  pub data Has : Entries → EntryPlaced → Type 0 where
-    at_first : (entry : EntryPlaced) (rest : Entries) → Has (Ok entry ∷ rest) entry
-    later : (entry first : EntryPlaced) (rest : Entries) → d.last first.bytes ≡ false → Has rest entry → Has (Ok first ∷ rest) entry
+  pub data HasIn : Entries → EntryPlaced → Type 0 where
+    at_first : (entry : EntryPlaced) (rest : Entries) → HasIn (Ok entry ∷ rest) entry
+    later : (entry first : EntryPlaced) (rest : Entries) → d.last first.bytes ≡ false → HasIn rest entry → HasIn (Ok first ∷ rest) entry
 
   -- entries are reached from others by going down that many times
-  pub data Down : ℕ → Entries → Entries → Type 0 where
-    here : (es : Entries) → Down 0 es es
-    into_node : (steps : ℕ) (es to : Entries) (entry : EntryPlaced) (node : NodeSeen) → Has es entry → Leads entry.bytes node
-        → Down steps (d.entries node) to
-        → Down (suc steps) es to
+  pub data DownIn : ℕ → Entries → Entries → Type 0 where
+    here : (es : Entries) → DownIn 0 es es
+    into_node : (steps : ℕ) (es to : Entries) (entry : EntryPlaced) (node : NodeSeen) → HasIn es entry → LeadsIn entry.bytes node
+        → DownIn steps (d.entries node) to
+        → DownIn (suc steps) es to
 
   -- the records reached within so many levels, in the order of the listing
-  abbrev pub reached_sub : (Entries → List ℕ) → Result (Option NodeSeen) Refusal → List ℕ
-  reached_sub below (Ok (Some node)) = number_in node.place ∷ below (d.entries node)
-  reached_sub below (Ok None) = []
-  reached_sub below (Err refusal) = []
+  abbrev pub reached_below : (Entries → List ℕ) → Result (Option NodeSeen) Refusal → List ℕ
+  reached_below below (Ok (Some node)) = number_in node.place ∷ below (d.entries node)
+  reached_below below (Ok None) = []
+  reached_below below (Err refusal) = []
 
-  unfoldable pub reached_in : (Entries → List ℕ) → Entries → List ℕ
-  reached_in below [] = []
-  reached_in below (Err refusal ∷ rest) = []
-  reached_in below (Ok entry ∷ rest) = reached_sub below (subnode 1 false entry.bytes) ++ (if d.last entry.bytes then [] else reached_in below rest)
+  unfoldable pub reached_at : (Entries → List ℕ) → Entries → List ℕ
+  reached_at below [] = []
+  reached_at below (Err refusal ∷ rest) = []
+  reached_at below (Ok entry ∷ rest) = reached_below below (subnode 1 false entry.bytes) ++ (if d.last entry.bytes then [] else reached_at below rest)
 
-  unfoldable pub reached : ℕ → Entries → List ℕ
-  reached zero es = []
-  reached (suc levels) es = reached_in (reached levels) es
+  unfoldable pub reached_within : ℕ → Entries → List ℕ
+  reached_within zero es = []
+  reached_within (suc levels) es = reached_at (reached_within levels) es
 
   -- a path leads to a record within so many levels: some entries reached have one whose subnode it is
-  pub record Reaches (levels : ℕ) (root : Entries) (number : ℕ) : Type 0 where
+  pub record ReachesIn (levels : ℕ) (root : Entries) (number : ℕ) : Type 0 where
     pub steps : ℕ
     pub few : steps < levels
     pub from : Entries
     pub entry : EntryPlaced
     pub to : NodeSeen
-    pub path : Down steps root from
-    pub has : Has from entry
-    pub leads : Leads entry.bytes to
+    pub path : DownIn steps root from
+    pub has : HasIn from entry
+    pub leads : LeadsIn entry.bytes to
     pub is : number_in to.place ≡ number
 
 -- entries with so many levels, theirs with them; they run out, or end with a LAST_ENTRY, or a named entry and more
-pub data Tree (d : Dir) {K : Type 0} (kind : Kind K) : (levels : ℕ) → Entries → Type 0 where
-  out : (left : ℕ) → Tree d kind (suc left) []
-  end : (left : ℕ) (entry : EntryPlaced) (rest : Entries) → d.last entry.bytes ≡ true → d.vcn entry.bytes ≡ Ok None → Tree d kind (suc left) (Ok entry ∷ rest)
-  down : (left : ℕ) (entry : EntryPlaced) (rest : Entries) → d.last entry.bytes ≡ true → (node : NodeSeen) → Leads d entry.bytes node
-      → Tree d kind left (d.entries node)
-      → Tree d kind (suc left) (Ok entry ∷ rest)
+pub data TreeIn (d : Dir) {K : Type 0} (kind : Kind K) : (levels : ℕ) → Entries → Type 0 where
+  out : (left : ℕ) → TreeIn d kind (suc left) []
+  end : (left : ℕ) (entry : EntryPlaced) (rest : Entries) → d.last entry.bytes ≡ true → d.vcn entry.bytes ≡ Ok None → TreeIn d kind (suc left) (Ok entry ∷ rest)
+  down : (left : ℕ) (entry : EntryPlaced) (rest : Entries) → d.last entry.bytes ≡ true → (node : NodeSeen) → LeadsIn d entry.bytes node
+      → TreeIn d kind left (d.entries node)
+      → TreeIn d kind (suc left) (Ok entry ∷ rest)
   leaf : (left : ℕ) (entry : EntryPlaced) (rest : Entries) (name : K) → d.last entry.bytes ≡ false → read_as kind (d.key entry.bytes) ≡ Ok (Some name)
       → d.vcn entry.bytes ≡ Ok None
-      → Tree d kind (suc left) rest
-      → Tree d kind (suc left) (Ok entry ∷ rest)
+      → TreeIn d kind (suc left) rest
+      → TreeIn d kind (suc left) (Ok entry ∷ rest)
   fork : (left : ℕ) (entry : EntryPlaced) (rest : Entries) (name : K) → d.last entry.bytes ≡ false → read_as kind (d.key entry.bytes) ≡ Ok (Some name)
-      → (node : NodeSeen) → Leads d entry.bytes node
-      → Tree d kind left (d.entries node)
-      → Tree d kind (suc left) rest → Tree d kind (suc left) (Ok entry ∷ rest)
+      → (node : NodeSeen) → LeadsIn d entry.bytes node
+      → TreeIn d kind left (d.entries node)
+      → TreeIn d kind (suc left) rest → TreeIn d kind (suc left) (Ok entry ∷ rest)
 
 -- the entries in the order of the listing, and their names
-abbrev pub items : {d : Dir} {K : Type 0} {kind : Kind K} {levels : ℕ} {es : Entries} → Tree d kind levels es → List EntryPlaced
-items (out left) = []
-items (end left entry rest last alone) = []
-items (down left entry rest last node leads below) = items below
-items (leaf left entry rest name goes named alone more) = entry ∷ items more
-items (fork left entry rest name goes named node leads below more) = items below ++ entry ∷ items more
+abbrev pub items_in : {d : Dir} {K : Type 0} {kind : Kind K} {levels : ℕ} {es : Entries} → TreeIn d kind levels es → List EntryPlaced
+items_in (out left) = []
+items_in (end left entry rest last alone) = []
+items_in (down left entry rest last node leads below) = items_in below
+items_in (leaf left entry rest name goes named alone more) = entry ∷ items_in more
+items_in (fork left entry rest name goes named node leads below more) = items_in below ++ entry ∷ items_in more
 
-abbrev pub keys : {d : Dir} {K : Type 0} {kind : Kind K} {levels : ℕ} {es : Entries} → Tree d kind levels es → List K
-keys (out left) = []
-keys (end left entry rest last alone) = []
-keys (down left entry rest last node leads below) = keys below
-keys (leaf left entry rest name goes named alone more) = name ∷ keys more
-keys (fork left entry rest name goes named node leads below more) = keys below ++ name ∷ keys more
+abbrev pub keys_in : {d : Dir} {K : Type 0} {kind : Kind K} {levels : ℕ} {es : Entries} → TreeIn d kind levels es → List K
+keys_in (out left) = []
+keys_in (end left entry rest last alone) = []
+keys_in (down left entry rest last node leads below) = keys_in below
+keys_in (leaf left entry rest name goes named alone more) = name ∷ keys_in more
+keys_in (fork left entry rest name goes named node leads below more) = keys_in below ++ name ∷ keys_in more
 
 -- the name of an entry compares equal to the sought one
-abbrev pub Equals : Dir → {K : Type 0} → Kind K → K → EntryPlaced → Type 0
-Equals d {K} kind sought entry = (name : K) × (read_as kind (d.key entry.bytes) ≡ Ok (Some name)) × (kind.order sought name ≡ Equal)
+abbrev pub EqualsIn : Dir → {K : Type 0} → Kind K → K → EntryPlaced → Type 0
+EqualsIn d {K} kind sought entry = (name : K) × (read_as kind (d.key entry.bytes) ≡ Ok (Some name)) × (kind.order sought name ≡ Equal)
 
 -- a lookup's answer where these entries are listed, with these names: one of them that is equal, or not found and none is equal
-pub data Searched (d : Dir) {K : Type 0} (kind : Kind K) (sought : K) (entries : List EntryPlaced) (names : List K) (answer : Answered) : Type 0 where
-  hit : (entry : EntryPlaced) (o : ℕ) → answer ≡ some entry o → Contains entries entry → Equals d kind sought entry
-      → Searched d kind sought entries names answer
-  miss : (o : ℕ) → answer ≡ none o → NoneEqual kind.order sought names → Searched d kind sought entries names answer
+pub data SearchedIn (d : Dir) {K : Type 0} (kind : Kind K) (sought : K) (entries : List EntryPlaced) (names : List K) (answer : Answered) : Type 0 where
+  hit : (entry : EntryPlaced) (o : ℕ) → answer ≡ some entry o → Contains entries entry → EqualsIn d kind sought entry
+      → SearchedIn d kind sought entries names answer
+  miss : (o : ℕ) → answer ≡ none o → NoneEqual kind.order sought names → SearchedIn d kind sought entries names answer
 
 -- in any directory the full listing of a tree yields its entries, and ends
 abbrev pub TreeListedInAnyDirectoryFor : {K : Type 0} → Kind K → Type 0
-TreeListedInAnyDirectoryFor kind = (d : Dir) (levels : ℕ) (es : Entries) (t : Tree d kind levels es)
-    → (n : ℕ) × Lists (list d never levels es 0) (items t) n
+TreeListedInAnyDirectoryFor kind = (d : Dir) (levels : ℕ) (es : Entries) (t : TreeIn d kind levels es)
+    → (n : ℕ) × Lists (list d never levels es 0) (items_in t) n
 
 abbrev pub TreeListedInAnyDirectoryForAnyKind : Type 1
 TreeListedInAnyDirectoryForAnyKind = (K : Type 0) (kind : Kind K) → TreeListedInAnyDirectoryFor kind
@@ -187,9 +186,9 @@ TreeListedInAnyDirectory = (kind : Kind (List ℕ)) → TreeListedInAnyDirectory
 
 -- over any total order, in a tree of any directory whose names never fall, going down as lookup does loses no equal entry
 abbrev pub NoneLostInAnyDirectoryFor : {K : Type 0} → Kind K → Type 0
-NoneLostInAnyDirectoryFor {K} kind = (sought : K) → IsTotalOrder kind.order → (d : Dir) (levels : ℕ) (es : Entries) (t : Tree d kind levels es) (allowance : ℕ)
-    → levels ≤ suc allowance → NeverFall kind.order None (keys t)
-    → Searched d kind sought (items t) (keys t) (find d (spent_at allowance) kind sought levels es 0)
+NoneLostInAnyDirectoryFor {K} kind = (sought : K) → IsTotalOrder kind.order → (d : Dir) (levels : ℕ) (es : Entries) (t : TreeIn d kind levels es) (allowance : ℕ)
+    → levels ≤ suc allowance → NeverFall kind.order None (keys_in t)
+    → SearchedIn d kind sought (items_in t) (keys_in t) (find d (spent_at allowance) kind sought levels es 0)
 
 abbrev pub NoneLostInAnyDirectoryForAnyKind : Type 1
 NoneLostInAnyDirectoryForAnyKind = (K : Type 0) (kind : Kind K) → NoneLostInAnyDirectoryFor kind
@@ -199,7 +198,7 @@ NoneLostInAnyDirectory = (kind : Kind (List ℕ)) → NoneLostInAnyDirectoryFor 
 
 -- in any directory the records reached are those that a path of entries leads to
 abbrev pub ReachedByPathInAnyDirectory : Type 0
-ReachedByPathInAnyDirectory = (d : Dir) (levels : ℕ) (root : Entries) (number : ℕ) → Contains (reached d levels root) number ↔ Reaches d levels root number
+ReachedByPathInAnyDirectory = (d : Dir) (levels : ℕ) (root : Entries) (number : ℕ) → Contains (reached_within d levels root) number ↔ ReachesIn d levels root number
 
 -- the code's listing is that of its directory
 abbrev pub CodeListsSo : Type 0
@@ -215,7 +214,7 @@ CodeFindsSoForAnyKind = (K : Type 0) (kind : Kind K) → CodeFindsSoFor kind
 
 -- and the records that it reaches
 abbrev pub CodeReachesSo : Type 0
-CodeReachesSo = (p : Passed) (levels : ℕ) (node : NodeSeen) → fit.reached p levels node ≡ reached (dir_of p) levels (entries_of node)
+CodeReachesSo = (p : Passed) (levels : ℕ) (node : NodeSeen) → reached p levels node ≡ reached_within (dir_of p) levels (entries_of node)
 
 -- so what holds in any directory holds of what the code walks
 abbrev pub CodeWalksSo : Type 0
