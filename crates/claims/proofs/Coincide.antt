@@ -92,6 +92,8 @@ use Rattle.index.proofs.Cursor.step.Reads as step-reads
 use Rattle.index.proofs.step.Reads as step-by-value
 use Rattle.checker.proofs.check.Reads as check-reads
 use Rattle.checker.proofs.check_file_names.Reads as check-file-names
+use Rattle.upcase_table.proofs.Units.unit_count.Reads as unit-count
+use Rattle.upcase_table.proofs.Units.unit_at.Reads as unit-at
 use Rattle.upcase_table.proofs.Units.next_unit.Reads as next-unit
 use Rattle.directory.proofs.node.NodeEntriesIterator.next.Reads as next-entry
 use Rattle.capture.proofs.parse.Reads as parse
@@ -399,6 +401,12 @@ one_check_file_names l a x y s t p q = ap (λ its. its.verdict) (same p q)
 
 pub one_check_file_names_marks : LeavesOne check-file-names.Post (λ l s. s.1.1.0.now)
 one_check_file_names_marks l a x y s t p q = ap (λ its. its.marks) (same p q)
+
+pub one_unit_count : (C : _) (a1 : _) (a2 : _) (a3 : _) (a4 : _) → Coincide (unit-count.Post C a1 a2 a3 a4) (λ l x. x)
+one_unit_count C a1 a2 a3 a4 l a x y s t = same
+
+pub one_unit_at : (C : _) (a1 : _) (a2 : _) (a3 : _) (a4 : _) → Coincide (unit-at.Post C a1 a2 a3 a4) (λ l x. x)
+one_unit_at C a1 a2 a3 a4 l a x y s t = same
 
 pub one_next_unit : (C : _) (a1 : _) (a2 : _) (a3 : _) (a4 : _) → Coincide (next-unit.Post C a1 a2 a3 a4) (λ l x. x)
 one_next_unit C a1 a2 a3 a4 l a x y s t p q = itself x y (first-one (λ it. it) a2.units a.0.now x y s.0.now t.0.now p q).0
