@@ -57,6 +57,8 @@ use Rattle.file_name.proofs.file_name.FileNameTryFromRefSliceU8.try_from.Reads a
 use Rattle.upcase_table.proofs.LeUnits.new.Reads as le-units
 use Rattle.upcase_table.proofs.upcase_table.UpcaseTableTryFromRefSliceU16.try_from.Reads as upcase-table
 use Rattle.upcase_table.proofs.compare.Reads as compare-reads
+use Rattle.upcase_table.proofs.upcase_cmp.Reads as upcase-cmp
+use Rattle.upcase_table.proofs.upcase_cmp_keys.Reads as upcase-cmp-keys
 use Rattle.upcase_table.proofs.Upcase.upcase.Reads as upcase-reads
 use Rattle.index_root.proofs.index_record_size.Reads as index-record-size
 use Rattle.index_root.proofs.is_large_index.Reads as is-large-index
@@ -282,6 +284,12 @@ one_upcase_table l a x y s t = table-one a.0 x y
 pub one_compare : (C : _) (S : _) (R : _) (a1 : _) (a2 : _) (a3 : _) (a4 : _) (a5 : _) (a6 : _) (a7 : _) (a8 : _) (a9 : _) (a10 : _) (a11 : _)
     → Coincide (compare-reads.Post C S R a1 a2 a3 a4 a5 a6 a7 a8 a9 a10 a11) (λ l x. x)
 one_compare C S R a1 a2 a3 a4 a5 a6 a7 a8 a9 a10 a11 l a x y s t = same
+
+pub one_upcase_cmp : Coincide upcase-cmp.Post (λ l x. x)
+one_upcase_cmp l a x y s t = same
+
+pub one_upcase_cmp_keys : Coincide upcase-cmp-keys.Post (λ l x. x)
+one_upcase_cmp_keys l a x y s t = same
 
 pub one_upcase : (C : _) (a1 : _) (a2 : _) (a3 : _) → Coincide (upcase-reads.Post C a1 a2 a3) (λ l x. x)
 one_upcase C a1 a2 a3 l a x y s t = same

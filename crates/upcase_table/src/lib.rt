@@ -2,12 +2,13 @@
 #![tactic(auto)]
 
 ghost use Rattle.std.specs.Prelude.{◌≡◌};
-ghost use Rattle.upcase_table.specs.Names.{name_order};
+ghost use Rattle.upcase_table.specs.Names.{units_of, name_order, compared_names};
 
 mod units;
 mod upcase;
 mod upcase_table;
 
+use refusal::Refusal;
 use std::cmp::Ordering;
 pub use units::{LeUnits, Units};
 pub use upcase::Upcase;
@@ -30,4 +31,26 @@ pub fn compare<T: Upcase, A: Units, B: Units>(table: &T, ours: A, theirs: B) -> 
         }
     }
     our_count.cmp(&their_count)
+}
+
+/// The same under a table that is lent as it is; 19 if it has another length.
+fn compare_under<A: Units, B: Units>(table: &[u16], ours: A, theirs: B) -> Result<Ordering, Refusal>
+    ensures { result ≡ compared_names table.now (A.units ours) (B.units theirs) }
+{
+    let table = UpcaseTable::try_from(table)?;
+    Ok(compare(&table, ours, theirs))
+}
+
+/// A sought name, lent as units, against a name in a key's bytes.
+pub fn upcase_cmp(table: &[u16], name: &[u16], other: &[u8]) -> Result<Ordering, Refusal>
+    ensures { result ≡ compared_names table.now name.now (units_of other.now) }
+{
+    compare_under(table, name, LeUnits::new(other))
+}
+
+/// Two names in keys' bytes.
+pub fn upcase_cmp_keys(table: &[u16], name: &[u8], other: &[u8]) -> Result<Ordering, Refusal>
+    ensures { result ≡ compared_names table.now (units_of name.now) (units_of other.now) }
+{
+    compare_under(table, LeUnits::new(name), LeUnits::new(other))
 }
