@@ -1,4 +1,5 @@
 pub mod Words
 pub mod Back
 pub mod Named
+pub mod Places
 pub mod Run

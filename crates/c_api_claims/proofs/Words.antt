@@ -12,6 +12,7 @@ use Rattle.index_run.proofs.Running.{steps_are_the_listing}
 use Rattle.c_api.specs.Lies.{AnswerLies}
 use Rattle.c_api.specs.Words.{answer_words, entry_name_words}
 use Rattle.c_api.proofs.Lies.{step-lies, find-lies, find_file_name-lies}
+use Rattle.c_api_claims.proofs.Places.{place_named}
 use Rattle.c_api_claims.specs.Words.{Names, AnswerNames, NumbersName, EntryNames}
 
 lies-names : (d : Lent) (answer : Answered) → AnswerLies d answer → AnswerNames d answer
@@ -30,6 +31,7 @@ numbers_name = record {
   of_listing = λ d spent at. lies-names d _ (subst (AnswerLies d) (steps_are_the_listing d spent at) (after-lies d spent at new_cursor));
   of_lookup = λ d spent kind sought. lies-names d _ (find-lies d spent kind sought);
   of_file_name = λ d spent table name. lies-names d _ (find_file_name-lies d spent table name);
+  of_place = place_named;
 }
 
 pub entry_names : EntryNames

@@ -7,6 +7,7 @@ use Rattle.collation.specs.Kind.{Kind}
 use Rattle.directory.specs.Answer.{Answered, some}
 use Rattle.directory.specs.Lent.{Lent, EntryPlaced}
 use Rattle.index.specs.declared.cursor.Cursor.{Cursor}
+use Rattle.index.specs.declared.cursor.NodeName.{NodeName}
 use Rattle.index.specs.Cursor.{new_cursor}
 use Rattle.index.specs.Listing.{listing}
 use Rattle.index.specs.Step.{step}
@@ -14,7 +15,9 @@ use Rattle.index_finder.specs.Find.{find}
 use Rattle.index_finder.specs.FileNames.{find_file_name}
 use Rattle.index_run.specs.Run.{said_at}
 use Rattle.c_api.specs.Lies.{held_by}
+use Rattle.index_node.specs.Bytes.{place_bytes}
 use Rattle.c_api.specs.Words.{answer_words, step_by_words, cursor_words, entry_name_words}
+use Rattle.c_api_claims.specs.Places.{SpanNames, place_span}
 
 -- an answer's holder, offset and size lie in the slice that the holder names, and are these bytes there
 pub record Names (d : Lent) (w bytes : List ℕ) : Type 0 where
@@ -25,12 +28,14 @@ pub record Names (d : Lent) (w bytes : List ℕ) : Type 0 where
 abbrev pub AnswerNames : Lent → Answered → Type 0
 AnswerNames d answer = (entry : EntryPlaced) (opened : ℕ) → answer ≡ some entry opened → Names d (answer_words d answer) entry.bytes
 
--- of each entry that a step answers, whatever the cursor; of each that is listed; and of each that a lookup answers
+-- of each entry that a step answers, whatever the cursor; of each that is listed; and of each that a lookup answers;
+-- and the three numbers of any place name the bytes that the place has
 pub record NumbersName : Type 0 where
   pub of_step : (d : Lent) (spent : ℕ → Bool) (cursor : Cursor) → AnswerNames d (step d spent cursor).answer
   pub of_listing : (d : Lent) (spent : ℕ → Bool) (at : ℕ) → AnswerNames d (said_at (listing d spent) at)
   pub of_lookup : (d : Lent) (spent : ℕ → Bool) (kind : Kind (List ℕ)) (sought : List ℕ) → AnswerNames d (find d spent kind sought)
   pub of_file_name : (d : Lent) (spent : ℕ → Bool) (table name : List ℕ) → AnswerNames d (find_file_name d spent table name)
+  pub of_place : (d : Lent) (node : NodeName) (at size : ℕ) → SpanNames d (place_span d node at size) (place_bytes d node at size)
 
 -- the numbers of the answer of the step after so many others, each handed the numbers that the one before it left
 unfoldable pub words_at : Lent → (spent : ℕ → Bool) → ℕ → List ℕ → List ℕ

@@ -92,6 +92,14 @@ use Rattle.index_finder.proofs.find_file_name.Reads as find-file-name
 use Rattle.index.proofs.Cursor.new.Reads as new-cursor
 use Rattle.index.proofs.Cursor.step.Reads as step-reads
 use Rattle.index.proofs.step.Reads as step-by-value
+use Rattle.index_node.proofs.check_pool.Reads as check-pool
+use Rattle.index_node.proofs.open_root.Reads as open-root
+use Rattle.index_node.proofs.open_node.Reads as open-node
+use Rattle.index_node.proofs.open_record.Reads as open-record
+use Rattle.index_node.proofs.node_bytes.Reads as named-node-bytes
+use Rattle.index_node.proofs.place_bytes.Reads as place-bytes
+use Rattle.index_node.proofs.entry_bytes.Reads as entry-bytes
+use Rattle.index_node.proofs.key_bytes.Reads as key-bytes
 use Rattle.checker.proofs.check.Reads as check-reads
 use Rattle.checker.proofs.check_file_names.Reads as check-file-names
 use Rattle.upcase_table.proofs.Units.unit_count.Reads as unit-count
@@ -396,6 +404,30 @@ one_step_leaves l a x y s t p q = ap (λ its. its.cursor) (same p q)
 
 pub one_step_by_value : Coincide step-by-value.Post (λ l x. stepped x)
 one_step_by_value l a x y s t = same
+
+pub one_check_pool : Coincide check-pool.Post (λ l x. x)
+one_check_pool l a x y s t = same
+
+pub one_open_root : Coincide open-root.Post (λ l x. index_root.read x)
+one_open_root l a x y s t = same
+
+pub one_open_node : Coincide open-node.Post (λ l x. directory.read x)
+one_open_node l a x y s t = same
+
+pub one_open_record : Coincide open-record.Post (λ l x. directory.read x)
+one_open_record l a x y s t = same
+
+pub one_named_node_bytes : Coincide named-node-bytes.Post (λ l x. x.now)
+one_named_node_bytes l a x y s t = same
+
+pub one_place_bytes : Coincide place-bytes.Post (λ l x. x.now)
+one_place_bytes l a x y s t = same
+
+pub one_entry_bytes : Coincide entry-bytes.Post (λ l x. x.now)
+one_entry_bytes l a x y s t = same
+
+pub one_key_bytes : Coincide key-bytes.Post (λ l x. x.now)
+one_key_bytes l a x y s t = same
 
 pub one_check : (C : _) (S : _) (a1 : _) (a2 : _) (a3 : _) (a4 : _) (a5 : _) (a6 : _) (a7 : _) → Coincide (check-reads.Post C S a1 a2 a3 a4 a5 a6 a7) (λ l x. x)
 one_check C S a1 a2 a3 a4 a5 a6 a7 l a x y s t p q = ap (λ its. its.verdict) (same p q)

@@ -3,7 +3,7 @@ use Rattle.std.proofs.Common.{zero, suc, ℕ, ℤ, pos, negsuc, ◌≡◌, ◌+�
 use Rattle.std.proofs.Common.{[], ◌∷◌, length, take, drop, refl, sym, ◌∙◌, ap, subst, arith, if◌then◌else◌, Option, Some, None, Result, Ok, Err}
 use Rattle.std.proofs.Math.Nat.{mod-add-div', mul-div_cancel}
 use Rattle.std.proofs.lemmas.Grind.{common_steps}
-use Rattle.std.proofs.lemmas.List.{drop-take, take-take}
+use Rattle.std.proofs.lemmas.List.{drop-take, length-take, take-take}
 use Rattle.refusal.specs.declared.Refusal.{Refusal}
 use Rattle.refusal.specs.declared.Refusal.TheVariants.{LargeWithoutPool}
 use Rattle.refusal.specs.Then.{◌>>=◌}
@@ -15,8 +15,14 @@ use Rattle.directory.specs.Lent.{Lent, Passed, EntryPlaced, NodeSeen}
 use Rattle.directory.specs.Directory.{passed, allocation_in, root_node, placed, node_in, again, subnode}
 use Rattle.directory.specs.Node.{Entries, placed_at, entry_in, start_after, entries_within, entries_at}
 use Rattle.directory.proofs.Openings.{subnode-again}
+use Rattle.directory.specs.declared.place.Place.{Place}
 use Rattle.directory.specs.declared.place.Place.TheVariants as places
-use Rattle.claims.specs.Nodes.{RecordInPool, OneVcn, part_of, held_by, IsNode, IsItsPlace}
+use Rattle.index.specs.Step.{name_of}
+use Rattle.index_node.specs.Node.{record_placed}
+use Rattle.index_node.specs.Bytes.{part_of, node_bytes, place_bytes}
+use Rattle.c_api.specs.Lies.{holder_of, start_of}
+use Rattle.c_api_claims.specs.Places.{span_at, place_span, told_words}
+use Rattle.claims.specs.Nodes.{RecordInPool, OneVcn, held_by, IsNode, IsItsPlace}
 
 record_in-lies : (offset size len r : ℕ) → record_in offset size len ≡ Ok r → (r * size ≡ offset) × (offset + size ≤ len)
 unfolding record_in
@@ -51,13 +57,22 @@ one_vcn (pos n) (pos m) cluster size len r one other =
     let same : n ≡ m = sym (mul-div_cancel n some) ∙ ap (λ k. k / cluster) (sym lies ∙ lies2) ∙ mul-div_cancel m some in
     ap pos same
 
+length-take-most : {A : Type 0} (n : ℕ) (l : List A) → length (take n l) ≤ n
+length-take-most n l = let long = length-take n l in grind (arith, common_steps)
+
 entry_at-part : (node : List ℕ) (at : ℕ) (entry : List ℕ) → entry_at node at ≡ Ok entry
     → (take (length entry) (drop at node) ≡ entry) × (at + length entry ≤ length node)
 unfolding entry_at
 entry_at-part node at entry is = (grind (arith, common_steps), grind (arith, common_steps))
 
 -- an entry of a part that begins what holds it
+pub prefix-inside : (held : List ℕ) (used at : ℕ) (entry : List ℕ) → entry_at (take used held) at ≡ Ok entry → at + length entry ≤ length held
+prefix-inside held used at entry is =
+    let (part, inside) = entry_at-part (take used held) at entry is in
+    grind (arith, common_steps)
+
 pub prefix-entry : (held : List ℕ) (used at : ℕ) (entry : List ℕ) → entry_at (take used held) at ≡ Ok entry → part_of held at (length entry) ≡ entry
+unfolding part_of
 prefix-entry held used at entry is =
     let (part, inside) = entry_at-part (take used held) at entry is in
     let within : at + length entry ≤ used = grind (arith, common_steps) in
@@ -135,10 +150,33 @@ module _ (d : Lent) where
 
   record-held : (vcn : ℤ) (number : ℕ) → record_at vcn d.cluster_size (record_size_of d.root) (length d.pool) ≡ Ok number
       → held_by d (places.Record number vcn) ≡ at_number number
+  unfolding part_of
   record-held vcn number at =
       let whole = (in_pool vcn d.cluster_size (record_size_of d.root) (length d.pool) number at).whole in
       let fits : nat_le (number * record_size_of d.root + record_size_of d.root) (length d.pool) ≡ true = grind (arith, common_steps) in
       rw fits refl
+
+  -- what holds a node is the node that its name finds
+  pub node-found : (place : Place) → IsNode d place → node_bytes d (name_of place) ≡ held_by d place
+  unfolding node_bytes record_placed
+  node-found places.Root named = refl
+  node-found (places.Record number vcn) named = rw named (sym (record-held vcn number named))
+
+  place-found : (place : Place) → IsNode d place → (at size : ℕ) → place_bytes d (name_of place) at size ≡ part_of (held_by d place) at size
+  unfolding place_bytes
+  place-found place named at size = ap (λ bytes. part_of bytes at size) (node-found place named)
+
+  -- an entry that lies in its node is told by the numbers of its place
+  place-told : (place : Place) → IsNode d place → (at size : ℕ) → at + size ≤ length (held_by d place)
+      → span_at (holder_of place) (start_of d place + at) size ≡ place_span d (name_of place) at size
+  unfolding place_span
+  place-told places.Root named at size inside = let fits : nat_le (at + size) (length d.root) ≡ true = grind (arith, common_steps) in rw fits refl
+  place-told (places.Record number vcn) named at size inside =
+      let held = record-held vcn number named in
+      let short = length-take-most (record_size_of d.root) (drop (number * record_size_of d.root) d.pool) in
+      let within : at + size ≤ record_size_of d.root = omega (arith, (rw held at inside), short) in
+      let fits : nat_le (at + size) (record_size_of d.root) ≡ true = grind (arith, common_steps) in
+      rw (named, fits) refl
 
   -- a record that its VCN leads to, once it is read
   pub read-stands : (r : RecordPlaced) → IsNode d (places.Record r.number r.vcn) → r.bytes ≡ at_number r.number → (node : NodeSeen)
@@ -171,8 +209,15 @@ module _ (d : Lent) where
       by (Ok bytes) was is =
           let same : ◌≡◌ {A = EntryPlaced} (placed_at node.place at bytes) entry = cc in
           let held = held_by d node.place in
-          let there : part_of held at (length bytes) ≡ bytes = prefix-entry held stands.used at bytes (rw stands.held at was) in
-          let P : EntryPlaced → Type 0 = IsItsPlace d in subst P same (record { node = stands.named; bytes = there })
+          let its : entry_at (take stands.used held) at ≡ Ok bytes = rw stands.held at was in
+          let there : part_of held at (length bytes) ≡ bytes = prefix-entry held stands.used at bytes its in
+          let P : EntryPlaced → Type 0 = IsItsPlace d in subst P same (record {
+            node = stands.named;
+            inside = prefix-inside held stands.used at bytes its;
+            held = there;
+            bytes = place-found node.place stands.named at (length bytes) ∙ there;
+            told = λ opened. ap (told_words opened) (place-told node.place stands.named at (length bytes) (prefix-inside held stands.used at bytes its));
+          })
 
 module _ (d : Lent) (p : Passed) (is : passed d ≡ Ok p) where
   abbrev IsAt : ℤ → RecordPlaced → Type 0

@@ -1,7 +1,8 @@
 //! What the proved functions answer, as a case's line shows it.
-use directory::{Answer, Directory, Node, Place};
+use directory::{Answer, Directory, Place};
 use index::{Cursor, NodeName};
-use index_allocation::{PlacedRecord, block_number, record_from_vcn};
+use index_allocation::block_number;
+use index_node::open_node;
 use refusal::{Fault, Refusal};
 use std::io;
 use std::io::Write;
@@ -10,33 +11,13 @@ fn write_refusal<W: Write>(writer: &mut W, refusal: Refusal) -> io::Result<()> {
     write!(writer, "refused {}", refusal.number())
 }
 
-/// The record at a VCN, whatever the directory's root says: 13 to 17.
-fn open_record<'a>(directory: &Directory<'a>, vcn: i64) -> Result<Node<'a>, Refusal> {
-    let pool = directory.pool;
-    let size = index_root::index_record_size(directory.root);
-    let number = record_from_vcn(vcn, directory.cluster_size, size, pool.len())?;
-    let start = number * size;
-    Node::read(PlacedRecord {
-        number,
-        vcn,
-        bytes: &pool[start..start + size],
-    })
-}
-
-fn open<'a>(directory: &Directory<'a>, node: NodeName) -> Result<Node<'a>, Refusal> {
-    match node {
-        NodeName::Root => Ok(directory.open()?.root_node()),
-        NodeName::Record(vcn) => open_record(directory, vcn),
-    }
-}
-
 /// A node opened: where its entries start and end, how long its slice is and where it lies.
 pub(crate) fn write_node<W: Write>(
     writer: &mut W,
     directory: &Directory<'_>,
     node: NodeName,
 ) -> io::Result<()> {
-    let node = match open(directory, node) {
+    let node = match open_node(directory, node) {
         Ok(node) => node,
         Err(refusal) => return write_refusal(writer, refusal),
     };
@@ -59,7 +40,7 @@ pub(crate) fn write_entry<W: Write>(
     node: NodeName,
     position: usize,
 ) -> io::Result<()> {
-    let node = match open(directory, node) {
+    let node = match open_node(directory, node) {
         Ok(node) => node,
         Err(refusal) => return write_refusal(writer, refusal),
     };
