@@ -1,6 +1,6 @@
 -- The three numbers of a place name its bytes and no byte outside what holds it, whatever the place.
 use Rattle.std.proofs.Common.{zero, suc, ℕ, ℤ, pos, negsuc, ◌≡◌, ◌+◌, ◌*◌, ◌/◌, ◌%◌, ◌≤◌, ◌<◌, Bool, true, false, nat_le, List, [], length, take, drop}
-use Rattle.std.proofs.Common.{refl, sym, ◌∙◌, ap, subst, arith, if◌then◌else◌, Result, Ok, Err}
+use Rattle.std.proofs.Common.{refl, sym, ◌∙◌, ap, subst, arith, Result, Ok, Err}
 use Rattle.std.proofs.Math.Nat.{mod-add-div'}
 use Rattle.std.proofs.lemmas.Grind.{common_steps}
 use Rattle.std.proofs.lemmas.List.{take_all}
@@ -15,7 +15,7 @@ use Rattle.index_node.specs.Node.{pool_lent, record_placed}
 use Rattle.index_node.specs.Bytes.{part_of, bytes_placed, node_bytes, place_bytes}
 use Rattle.c_api.specs.Lies.{held_by}
 use Rattle.c_api.proofs.Places.{are_at-cut, are_at-part}
-use Rattle.c_api_claims.specs.Places.{span_at, span_in, span_in_record, place_span, SpanNames}
+use Rattle.c_api_claims.specs.Places.{span_at, span_where, span_in, span_in_record, place_span, SpanNames}
 
 part-there : (bytes : List ℕ) (at size : ℕ) → at + size ≤ length bytes → part_of bytes at size ≡ take size (drop at bytes)
 unfolding part_of
@@ -46,7 +46,7 @@ in-names d holder from len at size fits = by (nat_le (at + size) len) refl
     long = let its = are_at-cut (held_by d holder) from len fits in grind (arith, common_steps)
 
     by : (inside : Bool) → nat_le (at + size) len ≡ inside
-        → SpanNames d (if inside then span_at holder (from + at) size else span_at holder 0 0) (part_of node at size)
+        → SpanNames d (span_where inside holder from at size) (part_of node at size)
     by false test =
         let past : len < at + size = grind (arith, common_steps) in
         none-names d holder (part_of node at size) (sym (part-none node at size (omega (arith, long, past))))

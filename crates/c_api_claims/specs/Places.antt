@@ -1,5 +1,5 @@
 -- The three numbers of any place: holder, offset, size.
-use Rattle.std.specs.Prelude.{ℕ, ◌+◌, ◌*◌, ◌≤◌, ◌≡◌, nat_le, List, [], ◌∷◌, length, if◌then◌else◌, Result, Ok, Err}
+use Rattle.std.specs.Prelude.{ℕ, ◌+◌, ◌*◌, ◌≤◌, ◌≡◌, nat_le, Bool, true, false, List, [], ◌∷◌, length, Result, Ok, Err}
 use Rattle.refusal.specs.declared.Refusal.{Refusal}
 use Rattle.index_root.specs.Root.{record_size_of}
 use Rattle.index_allocation.specs.Allocation.{record_at}
@@ -17,9 +17,14 @@ pub record Span : Type 0 where
 abbrev pub span_at : (holder offset size : ℕ) → Span
 span_at holder offset size = record { holder = holder; offset = offset; size = size }
 
--- a place in a node that has len bytes from one of its holder's on; offset and size are 0 where it does not lie in the node
+-- a place in a node that begins at one of its holder's bytes; offset and size are 0 where it does not lie in the node
+abbrev pub span_where : (inside : Bool) → (holder from at size : ℕ) → Span
+span_where true holder from at size = span_at holder (from + at) size
+span_where false holder from at size = span_at holder 0 0
+
+-- of a node that has len bytes
 abbrev pub span_in : (holder from len at size : ℕ) → Span
-span_in holder from len at size = if nat_le (at + size) len then span_at holder (from + at) size else span_at holder 0 0
+span_in holder from len at size = span_where (nat_le (at + size) len) holder from at size
 
 abbrev pub span_in_record : Lent → Result ℕ Refusal → (at size : ℕ) → Span
 span_in_record d (Ok number) at size = span_in 1 (number * record_size_of d.root) (record_size_of d.root) at size
