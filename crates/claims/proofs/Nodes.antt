@@ -17,12 +17,14 @@ use Rattle.directory.specs.Node.{Entries, placed_at, entry_in, start_after, entr
 use Rattle.directory.proofs.Openings.{subnode-again}
 use Rattle.directory.specs.declared.place.Place.{Place}
 use Rattle.directory.specs.declared.place.Place.TheVariants as places
+use Rattle.index.specs.declared.cursor.NodeName.TheVariants as names
 use Rattle.index.specs.Step.{name_of}
 use Rattle.index_node.specs.Node.{record_placed}
-use Rattle.index_node.specs.Bytes.{part_of, node_bytes, place_bytes}
-use Rattle.c_api.specs.Lies.{holder_of, start_of}
+use Rattle.index_node.specs.Bytes.{part_of, node_bytes, place_bytes, view_bytes}
+use Rattle.c_api.specs.Lies.{holder_of, start_of, AreAt}
+use Rattle.c_api.proofs.Places.{are_at-cut, is-of}
 use Rattle.c_api_claims.specs.Places.{span_at, place_span, told_words}
-use Rattle.claims.specs.Nodes.{RecordInPool, OneVcn, held_by, IsNode, IsItsPlace}
+use Rattle.claims.specs.Nodes.{RecordInPool, OneVcn, held_by, IsNode, IsItsPlace, IsViewed}
 
 record_in-lies : (offset size len r : ℕ) → record_in offset size len ≡ Ok r → (r * size ≡ offset) × (offset + size ≤ len)
 unfolding record_in
@@ -218,6 +220,41 @@ module _ (d : Lent) where
             bytes = place-found node.place stands.named at (length bytes) ∙ there;
             told = λ opened. ap (told_words opened) (place-told node.place stands.named at (length bytes) (prefix-inside held stands.used at bytes its));
           })
+
+-- bytes that lie in a slice are that part of it
+part-lies : (held bytes : List ℕ) (from : ℕ) → AreAt held from bytes → part_of held from (length bytes) ≡ bytes
+unfolding part_of
+part-lies held bytes from lies =
+    let within = lies.within in
+    let fits : nat_le (from + length bytes) (length held) ≡ true = grind (arith, common_steps) in
+    rw fits lies.same
+
+-- the root, and a record, are part of what holds them
+pub root-viewed : (d : Lent) (p : Passed) → passed d ≡ Ok p → IsViewed d names.Root (root_node p)
+unfolding view_bytes
+root-viewed d p was = part-lies d.root p.root.bytes 0 (is-of d p was).root
+
+pub record-viewed : (d : Lent) (vcn : ℤ) (number : ℕ) → record_at vcn d.cluster_size (record_size_of d.root) (length d.pool) ≡ Ok number
+    → (node : NodeSeen) → node_in (record { number = number; vcn = vcn; bytes = at_number d number }) ≡ Ok node → IsViewed d (names.Record vcn) node
+unfolding node_in view_bytes
+record-viewed d vcn number at node = by (record_of bytes vcn) refl
+  where
+    bytes : List ℕ
+    bytes = at_number d number
+
+    made : Record → NodeSeen
+    made held = record { bytes = held.bytes; start = held.start; end = held.end; place = places.Record number vcn }
+
+    by : (h : Result Record Refusal) → record_of bytes vcn ≡ h → (h >>= λ held. Ok (made held)) ≡ Ok node → IsViewed d (names.Record vcn) node
+    by (Err refusal) seen is = cc
+    by (Ok held) seen is =
+        let same : made held ≡ node = cc in
+        let its : held.bytes ≡ bytes = record_of-is bytes vcn held seen in
+        let whole = (in_pool vcn d.cluster_size (record_size_of d.root) (length d.pool) number at).whole in
+        let lies : AreAt d.pool (number * record_size_of d.root) held.bytes =
+        subst (λ (b : List ℕ). AreAt d.pool (number * record_size_of d.root) b) (sym its)
+        (are_at-cut d.pool (number * record_size_of d.root) (record_size_of d.root) whole) in
+        let P : NodeSeen → Type 0 = IsViewed d (names.Record vcn) in subst P same (part-lies d.pool held.bytes (number * record_size_of d.root) lies)
 
 module _ (d : Lent) (p : Passed) (is : passed d ≡ Ok p) where
   abbrev IsAt : ℤ → RecordPlaced → Type 0

@@ -30,8 +30,8 @@ use Rattle.index_run.proofs.Running.{steps_are_the_listing}
 use Rattle.index.specs.Step.{Turn, yields, ends, refuses, goes_on, node_at, passes, left_below, on_subnode, on_next, on_due, by_stage, on_level, turn}
 use Rattle.index.specs.Step.{weight, Outcome, then_turns, turns, walk, judge_all, checked, walk_in, on_depth, on_kept, step}
 use Rattle.index_node.specs.Node.{record_placed, view_of}
-use Rattle.claims.specs.Nodes.{IsItsPlace, PlaceIsEntry}
-use Rattle.claims.proofs.Nodes.{at_number, read-stands, entry-stands, Stands, root-stands, again-stands, subnode-stands, entry_in-placed, entry_in-good, entries_at-good, IsGood, AllGood}
+use Rattle.claims.specs.Nodes.{IsItsPlace, IsViewed, PlaceIsEntry}
+use Rattle.claims.proofs.Nodes.{at_number, read-stands, entry-stands, Stands, root-stands, root-viewed, record-viewed, again-stands, subnode-stands, entry_in-placed, entry_in-good, entries_at-good, IsGood, AllGood}
 
 abbrev IsGoodOption : Lent → Option EntryPlaced → Type 0
 IsGoodOption d (Some entry) = IsItsPlace d entry
@@ -207,19 +207,26 @@ module _ (d : Lent) (spent : ℕ → Bool) where
   listing-good : (at : ℕ) → IsGoodAnswer d (said_at (listing d spent) at)
   listing-good at = let P : Answered → Type 0 = IsGoodAnswer d in subst P (steps_are_the_listing d spent at) (after-good at new_cursor)
 
-view-stands : (d : Lent) (name : NodeName) (node : NodeSeen) → view_of d name ≡ Ok node → Stands d node
+-- a node that was opened by its name stands where its place says, and is that part of what holds it
+view-stands : (d : Lent) (name : NodeName) (node : NodeSeen) → view_of d name ≡ Ok node → Stands d node × IsViewed d name node
 unfolding view_of record_placed
 view-stands d Root node = by (passed d) refl
   where
-    by : (r : Result Passed Refusal) → passed d ≡ r → (r >>= λ its. Ok (root_node its)) ≡ Ok node → Stands d node
+    by : (r : Result Passed Refusal) → passed d ≡ r → (r >>= λ its. Ok (root_node its)) ≡ Ok node → Stands d node × IsViewed d Root node
     by (Err refusal) was is = cc
-    by (Ok p) was is = let root : root_node p ≡ node = cc in let P : NodeSeen → Type 0 = Stands d in subst P root (root-stands d p was)
+    by (Ok p) was is =
+        let root : root_node p ≡ node = cc in
+        let P : NodeSeen → Type 0 = λ its. Stands d its × IsViewed d Root its in subst P root (root-stands d p was, root-viewed d p was)
 view-stands d (Record vcn) node = by (record_at vcn d.cluster_size (record_size_of d.root) (length d.pool)) refl
   where
     by : (number : Result ℕ Refusal) → record_at vcn d.cluster_size (record_size_of d.root) (length d.pool) ≡ number
-        → ((number >>= λ n. Ok (record { number = n; vcn = vcn; bytes = at_number d n })) >>= node_in) ≡ Ok node → Stands d node
+        → ((number >>= λ n. Ok (record { number = n; vcn = vcn; bytes = at_number d n })) >>= node_in) ≡ Ok node
+        → Stands d node × IsViewed d (Record vcn) node
     by (Err refusal) was is = cc
-    by (Ok number) was is = read-stands d (record { number = number; vcn = vcn; bytes = at_number d number }) was refl node is
+    by (Ok number) was is = (
+      read-stands d (record { number = number; vcn = vcn; bytes = at_number d number }) was refl node is,
+      record-viewed d vcn number was node is,
+    )
 
 answered : (d : Lent) (answer : Answered) (entry : EntryPlaced) (opened : ℕ) → IsGoodAnswer d answer → answer ≡ some entry opened → IsItsPlace d entry
 answered d answer entry opened good is = let P : Answered → Type 0 = IsGoodAnswer d in subst P is good
@@ -228,7 +235,8 @@ pub places_are_entries : PlaceIsEntry
 places_are_entries = record {
   record_read = λ d vcn number node at entry leads reads here.
       entry-stands d node (read-stands d (record { number = number; vcn = vcn; bytes = at_number d number }) leads refl node reads) at entry here;
-  named = λ d name node at entry its here. entry-stands d node (view-stands d name node its) at entry here;
+  named = λ d name node at entry its here. entry-stands d node (view-stands d name node its).0 at entry here;
+  viewed = λ d name node its. (view-stands d name node its).1;
   opened = λ d p name node at entry is its here. entry_in-placed d p is node (node_at-stands d p is (λ o. false) name node its) at entry here;
   step = λ d spent cursor entry opened. answered d _ entry opened (step-good d spent cursor);
   listing = λ d spent at entry opened. answered d _ entry opened (listing-good d spent at);

@@ -12,8 +12,9 @@ use Rattle.index.specs.declared.cursor.NodeName.{NodeName}
 use Rattle.index.specs.declared.cursor.Cursor.{Cursor}
 use Rattle.index.specs.Listing.{listing}
 use Rattle.index.specs.Step.{name_of, node_at, step}
-use Rattle.index_node.specs.Bytes.{part_of, place_bytes}
+use Rattle.index_node.specs.Bytes.{part_of, view_bytes, place_bytes}
 use Rattle.index_node.specs.Node.{view_of}
+use Rattle.c_api.specs.Lies.{start_of}
 use Rattle.c_api.specs.Words.{answer_words}
 use Rattle.c_api_claims.specs.Places.{place_span, told_words}
 use Rattle.index_run.specs.Run.{said_at}
@@ -53,6 +54,10 @@ pub record IsItsPlace (d : Lent) (entry : EntryPlaced) : Type 0 where
   pub bytes : place_bytes d (name_of entry.node) entry.at (length entry.bytes) ≡ entry.bytes
   pub told : (opened : ℕ) → answer_words d (some entry opened) ≡ told_words opened (place_span d (name_of entry.node) entry.at (length entry.bytes))
 
+-- a node that was opened by its name is these bytes of what holds it, from where its place begins
+abbrev pub IsViewed : Lent → NodeName → NodeSeen → Type 0
+IsViewed d name node = view_bytes d name (start_of d node.place) (length node.bytes) ≡ node.bytes
+
 -- the bytes handed out with an entry's place are the entry that stands there: of each entry of a node that was opened; so of each
 -- that a step answers, whatever the cursor, of each that is listed, and of each that a lookup answers, by a file name or in any kind of key;
 -- and of each of a record that was read, also where 1 to 7 refuse the directory; so of each of a node that was opened by its name
@@ -63,6 +68,7 @@ pub record PlaceIsEntry : Type 0 where
       → entry_in node at ≡ Ok entry → IsItsPlace d entry
   pub named : (d : Lent) (name : NodeName) (node : NodeSeen) (at : ℕ) (entry : EntryPlaced)
       → view_of d name ≡ Ok node → entry_in node at ≡ Ok entry → IsItsPlace d entry
+  pub viewed : (d : Lent) (name : NodeName) (node : NodeSeen) → view_of d name ≡ Ok node → IsViewed d name node
   pub opened : (d : Lent) (p : Passed) (name : NodeName) (node : NodeSeen) (at : ℕ) (entry : EntryPlaced)
       → passed d ≡ Ok p → node_at p name ≡ Ok node → entry_in node at ≡ Ok entry → IsItsPlace d entry
   pub step : (d : Lent) (spent : ℕ → Bool) (cursor : Cursor) (entry : EntryPlaced) (opened : ℕ)
