@@ -2,11 +2,13 @@
 use Rattle.std.proofs.Common.{zero, suc, ℕ, Bool, refl, subst, sym}
 use Rattle.file_reference.specs.Reference.{reference_of}
 use Rattle.index_entry.specs.Entry.{entry_at, key_of, is_last}
+use Rattle.collation.specs.Kind.{Kind}
 use Rattle.directory.specs.Answer.{Answered, some}
 use Rattle.directory.specs.Lent.{Lent}
 use Rattle.index.specs.declared.cursor.Cursor.{Cursor}
 use Rattle.index.specs.Cursor.{new_cursor}
 use Rattle.index.specs.Step.{step}
+use Rattle.index_finder.specs.Find.{find}
 use Rattle.index_run.specs.Run.{answer_after}
 use Rattle.index_run.proofs.Running.{steps_are_the_listing}
 use Rattle.c_api.specs.Lies.{AnswerLies}
@@ -33,6 +35,10 @@ numbers_name = record {
   of_file_name = λ d spent table name. lies-names d _ (find_file_name-lies d spent table name);
   of_place = place_named;
 }
+
+-- and of each that a lookup in any kind of key answers
+pub named_for_any_kind : {K : Type 0} (d : Lent) (spent : ℕ → Bool) (kind : Kind K) (sought : K) → AnswerNames d (find d spent kind sought)
+named_for_any_kind d spent kind sought = lies-names d _ (find-lies d spent kind sought)
 
 pub entry_names : EntryNames
 unfolding entry_at key_of is_last reference_of entry_name_words
