@@ -1,96 +1,38 @@
 //! The lines of a capture's listing.
 #![tactic(auto)]
 
-ghost use Rattle.std.specs.Prelude.{◌≡◌, Some};
+mod parts;
+
+ghost use Rattle.std.specs.Prelude.{◌≡◌, ◌≤◌, Some, length, get_or, IfSome};
 ghost use Rattle.index_entry.specs.Entry.{key_of};
 ghost use Rattle.index_entry.specs.IndexEntry.{entry_bytes};
-ghost use Rattle.capture_line.specs.Text.{hex_byte, hex_pair, hex_pairs, name_text, named_text, key_part_text, line_of, closing_line};
+ghost use Rattle.file_name.specs.Key.{name_of};
+ghost use Rattle.capture_line.specs.Text.{named_text, key_text, key_part_text, line_of, opened_line, refused_line, closing_line};
 
+use crate::parts::{NEWLINE, SPACE, push_all, push_byte, push_ended, push_name, push_number};
+use arrayvec::ArrayVec;
 use file_name::FileName;
 use index_entry::IndexEntry;
 use refusal::Refusal;
 use std::fmt;
 
-/// A byte as two upper-case hex digits.
-#[derive(Clone, Copy)]
-struct HexByte(u8);
+/// Room for the longest line: three numbers of up to 20 digits, 255 units of four, three spaces and a newline.
+pub type Text = ArrayVec<u8, 1084>;
 
-impl fmt::Display for HexByte {
-    ghost output = { λ byte. Some (hex_byte byte.0) };
-
-    #[tactic(auto, using(std::proofs::lemmas::Fmt::hex_byte))]
-    fn fmt<W: fmt::Write>(&self, f: &mut fmt::Formatter<W>) -> fmt::Result {
-        let byte = self.0;
-        write!(f, "{byte:02X}")
-    }
-}
-
-/// A unit of a name as four upper-case hex digits. Its low byte stands first.
-#[derive(Clone, Copy)]
-struct HexUnit([u8; 2]);
-
-impl fmt::Display for HexUnit {
-    ghost output = { λ unit. Some (hex_pair unit.0) };
-
-    fn fmt<W: fmt::Write>(&self, f: &mut fmt::Formatter<W>) -> fmt::Result {
-        let [low, high] = self.0;
-        write!(f, "{}{}", HexByte(high), HexByte(low))
-    }
-}
-
-/// The units of a name, without gaps.
-#[derive(Clone, Copy)]
-struct Units<'a>(&'a [[u8; 2]]);
-
-impl fmt::Display for Units<'_> {
-    ghost output = { λ units. Some (hex_pairs units.0.now) };
-
-    fn fmt<W: fmt::Write>(&self, f: &mut fmt::Formatter<W>) -> fmt::Result {
-        for unit in self.0 {
-            write!(f, "{}", HexUnit(*unit))?;
-        }
-        Ok(())
-    }
-}
-
-/// A name's bytes: its units, or a point for one of no units.
-#[derive(Clone, Copy)]
-struct Name<'a>(&'a [u8]);
-
-impl fmt::Display for Name<'_> {
-    ghost output = { λ name. Some (name_text name.0.now) };
-
-    fn fmt<W: fmt::Write>(&self, f: &mut fmt::Formatter<W>) -> fmt::Result {
-        let (units, _) = self.0.as_chunks::<2>();
-        if units.is_empty() {
-            write!(f, ".")
-        } else {
-            write!(f, "{}", Units(units))
-        }
-    }
-}
-
-/// The namespace and the name of an entry, or `- -` where there is no name to show.
-#[derive(Clone, Copy)]
-struct NamePart<'a>(Option<FileName<'a>>);
-
-impl fmt::Display for NamePart<'_> {
-    ghost output = { λ part. Some (named_text part.0) };
-
-    fn fmt<W: fmt::Write>(&self, f: &mut fmt::Formatter<W>) -> fmt::Result {
-        match self.0 {
-            Some(name) => write!(f, "{} {}", name.namespace as u8, Name(name.units)),
-            None => write!(f, "- -"),
-        }
-    }
+/// The name that a key reads as, if it can be read.
+fn read_name(key: &[u8]) -> Option<FileName<'_>>
+    ensures text { named_text result ≡ key_text (name_of key.now) key.now }
+    ensures short { IfSome result (λ name. length name.units.now ≤ 510) }
+{
+    FileName::try_from(key).ok()
 }
 
 /// The name that an entry's key reads as, if it has a key that can be read.
 fn name_of<'a>(entry: &IndexEntry<'a>) -> Option<FileName<'a>>
-    ensures { named_text result ≡ key_part_text (key_of (entry_bytes entry.now)) }
+    ensures text { named_text result ≡ key_part_text (key_of (entry_bytes entry.now)) }
+    ensures short { IfSome result (λ name. length name.units.now ≤ 510) }
 {
-    let key = entry.key().ok()??;
-    FileName::try_from(key).ok()
+    read_name(entry.key().ok()??)
 }
 
 /// The line of an entry: record number, sequence, namespace, units.
@@ -99,14 +41,30 @@ pub struct Line<'a> {
     pub entry: IndexEntry<'a>,
 }
 
+impl Line<'_> {
+    /// Its bytes.
+    pub fn bytes(&self) -> Text
+        ensures { result.items ≡ line_of (entry_bytes self.now.entry) }
+    {
+        let mut text = ArrayVec::new();
+        let file = self.entry.file_reference();
+        push_number(&mut text, file.file_record_number());
+        push_byte(&mut text, SPACE);
+        push_number(&mut text, u64::from(file.sequence_number()));
+        push_byte(&mut text, SPACE);
+        push_name(&mut text, name_of(&self.entry));
+        push_byte(&mut text, NEWLINE);
+        text
+    }
+}
+
 impl fmt::Display for Line<'_> {
     ghost output = { λ line. Some (line_of (entry_bytes line.entry)) };
 
     fn fmt<W: fmt::Write>(&self, f: &mut fmt::Formatter<W>) -> fmt::Result {
-        let file = self.entry.file_reference();
-        let number = file.file_record_number();
-        let sequence = file.sequence_number();
-        writeln!(f, "{number} {sequence} {}", NamePart(name_of(&self.entry)))
+        let bytes = self.bytes();
+        let text = str::from_utf8(bytes.as_slice()).map_err(|_| fmt::Error)?;
+        f.write_str(text)
     }
 }
 
@@ -114,13 +72,83 @@ impl fmt::Display for Line<'_> {
 #[derive(Clone, Copy, Debug, PartialEq, Eq)]
 pub struct Closing(pub Result<u64, Refusal>);
 
+impl Closing {
+    /// Its bytes.
+    pub fn bytes(&self) -> Text
+        ensures { result.items ≡ closing_line self.now.0 }
+    {
+        let mut text = ArrayVec::new();
+        match self.0 {
+            Ok(opened) => {
+                push_all(&mut text, b"opened ");
+                push_ended(&mut text, opened);
+            }
+            Err(refusal) => {
+                push_all(&mut text, b"refused ");
+                push_ended(&mut text, u64::from(refusal.number()));
+            }
+        }
+        text
+    }
+}
+
 impl fmt::Display for Closing {
     ghost output = { λ closing. Some (closing_line closing.0) };
 
     fn fmt<W: fmt::Write>(&self, f: &mut fmt::Formatter<W>) -> fmt::Result {
-        match self.0 {
-            Ok(opened) => writeln!(f, "opened {opened}"),
-            Err(refusal) => writeln!(f, "refused {}", refusal.number()),
-        }
+        let bytes = self.bytes();
+        let text = str::from_utf8(bytes.as_slice()).map_err(|_| fmt::Error)?;
+        f.write_str(text)
     }
+}
+
+/// How long the line of these bytes is, taken for an entry.
+pub fn line_length(entry: &[u8]) -> usize
+    ensures { result ≡ length (line_of entry.now) }
+{
+    let entry = IndexEntry { bytes: entry };
+    Line { entry }.bytes().len()
+}
+
+/// A byte of that line; past its end 0.
+pub fn line_byte(entry: &[u8], i: usize) -> u8
+    ensures { result ≡ get_or (line_of entry.now) i 0 }
+{
+    let entry = IndexEntry { bytes: entry };
+    byte_at(Line { entry }.bytes().as_slice(), i)
+}
+
+/// How long the line `opened` is.
+pub fn opened_length(opened: u64) -> usize
+    ensures { result ≡ length (opened_line opened) }
+{
+    Closing(Ok(opened)).bytes().len()
+}
+
+/// A byte of it; past its end 0.
+pub fn opened_byte(opened: u64, i: usize) -> u8
+    ensures { result ≡ get_or (opened_line opened) i 0 }
+{
+    byte_at(Closing(Ok(opened)).bytes().as_slice(), i)
+}
+
+/// How long the line `refused` is.
+pub fn refused_length(refusal: Refusal) -> usize
+    ensures { result ≡ length (refused_line refusal) }
+{
+    Closing(Err(refusal)).bytes().len()
+}
+
+/// A byte of it; past its end 0.
+pub fn refused_byte(refusal: Refusal, i: usize) -> u8
+    ensures { result ≡ get_or (refused_line refusal) i 0 }
+{
+    byte_at(Closing(Err(refusal)).bytes().as_slice(), i)
+}
+
+/// The byte at `i`; past the end 0.
+fn byte_at(bytes: &[u8], i: usize) -> u8
+    ensures { result ≡ get_or bytes.now i 0 }
+{
+    bytes.get(i).copied().unwrap_or(0)
 }
