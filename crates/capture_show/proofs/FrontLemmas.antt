@@ -46,3 +46,32 @@ pub front_step : (old mid new : Option (List ℕ)) (done n : ℕ) (bs : List ℕ
 front_step old mid new done n bs within h w =
     subst (Appends old new) (ap (λ l. take done bs ++ take n l) (front_rest done bs) ∙ sym (front_split done n bs within))
     (Appends-trans old mid new _ _ h w)
+
+-- the same bytes
+pub front_same : (old new : Option (List ℕ)) (bs cs : List ℕ) → AppendsFront old new bs → bs ≡ cs → AppendsFront old new cs
+front_same old new bs cs f e = (f.0, f.1, sym e ∙ f.2, f.3)
+
+-- some of a text has been written, and what is left of it is known
+abbrev pub Written : Option (List ℕ) → Option (List ℕ) → (whole left : List ℕ) → Type 0
+Written old new whole left = (done : List ℕ) × (whole ≡ done ++ left) × Appends old new done
+
+pub written_none : (old : Option (List ℕ)) (whole : List ℕ) → Written old old whole whole
+written_none old whole = ([], refl, Appends-nil old)
+
+-- a further part of it
+pub written_more : (old mid new : Option (List ℕ)) (whole left bs rest : List ℕ) → Written old mid whole left → left ≡ bs ++ rest → Appends mid new bs → Written old new whole rest
+written_more old mid new whole left bs rest w e h =
+    (w.0 ++ bs, w.1 ∙ (ap (λ l. w.0 ++ l) e ∙ sym (append_assoc w.0 bs rest)), Appends-trans old mid new w.0 bs w.2 h)
+
+-- all that was left
+pub written_all : (old mid new : Option (List ℕ)) (whole left bs : List ℕ) → Written old mid whole left → left ≡ bs → Appends mid new bs → Appends old new whole
+written_all old mid new whole left bs w e h =
+    subst (Appends old new) (sym (w.1 ∙ ap (λ l. w.0 ++ l) e)) (Appends-trans old mid new w.0 bs w.2 h)
+
+-- a front of what was left
+pub written_front : (old mid new : Option (List ℕ)) (whole left bs : List ℕ) → Written old mid whole left → left ≡ bs → AppendsFront mid new bs → AppendsFront old new whole
+written_front old mid new whole left bs w e f = front_same old new (w.0 ++ bs) whole (front_more old mid new w.0 bs w.2 f) (sym (w.1 ∙ ap (λ l. w.0 ++ l) e))
+
+-- and a front of its next part
+pub written_part : (old mid new : Option (List ℕ)) (whole left bs rest : List ℕ) → Written old mid whole left → left ≡ bs ++ rest → AppendsFront mid new bs → AppendsFront old new whole
+written_part old mid new whole left bs rest w e f = written_front old mid new whole left (bs ++ rest) w e (front_longer mid new bs rest f)

@@ -2,6 +2,8 @@
 #![tactic(auto)]
 
 mod listing_text;
+mod read;
 mod written;
 
-pub use listing_text::{show, show_capture};
+pub use listing_text::{MOST_READ, show, show_capture, show_read};
+pub use read::read_front;
