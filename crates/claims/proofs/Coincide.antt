@@ -110,6 +110,14 @@ use Rattle.capture.proofs.parse.Reads as parse
 use Rattle.capture.proofs.root_bytes.Reads as captured-root
 use Rattle.capture.proofs.copy_pool.Reads as copy-pool
 use Rattle.capture.proofs.capture.Capture.copy_pool.Reads as copy-records
+use Rattle.capture_line.proofs.Line.bytes.Reads as line-bytes
+use Rattle.capture_line.proofs.Closing.bytes.Reads as closing-bytes
+use Rattle.capture_line.proofs.line_length.Reads as line-length
+use Rattle.capture_line.proofs.line_byte.Reads as line-byte
+use Rattle.capture_line.proofs.opened_length.Reads as opened-length
+use Rattle.capture_line.proofs.opened_byte.Reads as opened-byte
+use Rattle.capture_line.proofs.refused_length.Reads as refused-length
+use Rattle.capture_line.proofs.refused_byte.Reads as refused-byte
 use Rattle.replay_cases.proofs.number_at.Reads as number-at
 use Rattle.replay_cases.proofs.part.Reads as part-reads
 use Rattle.replay_cases.proofs.directory_in.Reads as directory-in
@@ -477,6 +485,30 @@ one_copy_records l a x y s t p q = same p.0 q.0
 
 pub one_copied_records : LeavesOne copy-records.Post (λ l s. s.1.0.now)
 one_copied_records l a x y s t p q = same p.1 q.1
+
+pub one_line_bytes : Coincide line-bytes.Post (λ l x. x.items)
+one_line_bytes l a x y s t = same
+
+pub one_closing_bytes : Coincide closing-bytes.Post (λ l x. x.items)
+one_closing_bytes l a x y s t = same
+
+pub one_line_length : Coincide line-length.Post (λ l x. x)
+one_line_length l a x y s t = same
+
+pub one_line_byte : Coincide line-byte.Post (λ l x. x)
+one_line_byte l a x y s t = same
+
+pub one_opened_length : Coincide opened-length.Post (λ l x. x)
+one_opened_length l a x y s t = same
+
+pub one_opened_byte : Coincide opened-byte.Post (λ l x. x)
+one_opened_byte l a x y s t = same
+
+pub one_refused_length : Coincide refused-length.Post (λ l x. x)
+one_refused_length l a x y s t = same
+
+pub one_refused_byte : Coincide refused-byte.Post (λ l x. x)
+one_refused_byte l a x y s t = same
 
 -- the cases that are replayed: a directory is its root's bytes, its pool's and its cluster size, and what is lent is memory and table
 pub one_number_at : Coincide number-at.Post (λ l x. x)
