@@ -10,12 +10,12 @@ mod case;
 use answers::{write_entry, write_node, write_steps};
 use case::{NodeCase, Operation};
 use index::Cursor;
-use replay_cases::{Case, Cases, LONGEST_INPUT, MOST_CASES};
+use replay_cases::{Case, LONGEST_BODY, LossyWriter, MOST_CASES, read_case};
 use std::io;
-use std::io::{BufWriter, Read, Write};
+use std::io::Write;
 
-/// A case's line; the cursor is kept for a case that goes on.
-fn run_case<W: Write>(writer: &mut W, case: &NodeCase<'_>, cursor: &mut Cursor) -> io::Result<()> {
+/// What a case asks for; the cursor is kept for a case that goes on.
+fn answer<W: Write>(writer: &mut W, case: &NodeCase<'_>, cursor: &mut Cursor) -> io::Result<()> {
     let directory = &case.directory;
     match case.operation {
         Operation::OpenNode(node) => write_node(writer, directory, node),
@@ -30,22 +30,25 @@ fn run_case<W: Write>(writer: &mut W, case: &NodeCase<'_>, cursor: &mut Cursor) 
     }
 }
 
-fn run_cases<W: Write>(writer: &mut W, input: &[u8]) -> io::Result<()> {
-    let mut cursor = Cursor::new();
-    for Case { body, .. } in (Cases { input, tag: 0 }).take(MOST_CASES) {
-        let case = NodeCase::from(body);
-        writer.write_all(case.label)?;
-        write!(writer, ": ")?;
-        run_case(writer, &case, &mut cursor)?;
-        writeln!(writer)?;
-    }
-    Ok(())
+/// A case's line, written before the next case is read.
+fn run_case<W: Write>(writer: &mut W, case: &NodeCase<'_>, cursor: &mut Cursor) -> io::Result<()> {
+    writer.write_all(case.label)?;
+    write!(writer, ": ")?;
+    answer(writer, case, cursor)?;
+    writeln!(writer)?;
+    writer.flush()
 }
 
-fn main(rt: HostRuntime) -> io::Result<()> {
-    let mut input = Vec::new(rt.alloc());
-    rt.reader().take(LONGEST_INPUT).read_to_end(&mut input)?;
-    let mut writer = BufWriter::new(rt.alloc(), io::writer(&rt))?;
-    run_cases(&mut writer, &input)?;
-    writer.flush()
+fn main(rt: HostRuntime) {
+    let mut reader = rt.stdin();
+    let mut writer = LossyWriter::new(io::writer(&rt));
+    let mut cursor = Cursor::new();
+    let mut head = [0; 4];
+    let mut room = [0; LONGEST_BODY];
+    for _case in 0..MOST_CASES {
+        let Ok(Some(Case { body, .. })) = read_case(&mut reader, &mut head, &mut room) else {
+            break;
+        };
+        let _ = run_case(&mut writer, &NodeCase::from(body), &mut cursor);
+    }
 }

@@ -4,9 +4,13 @@
 mod cases;
 mod fixture;
 mod lent;
+mod lossy;
 mod number;
+mod read;
 
 pub use cases::{Case, Cases, LONGEST_BODY, LONGEST_INPUT, MOST_CASES};
 pub use fixture::{Fixture, MadeTable, Setup, UnknownSetup};
 pub use lent::directory_in;
+pub use lossy::LossyWriter;
 pub use number::{number_at, part};
+pub use read::read_case;

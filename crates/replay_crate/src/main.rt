@@ -12,10 +12,10 @@ mod operation;
 
 use answers::{Shown, Walk};
 use operation::Operation;
-use replay_cases::{Cases, Fixture, LONGEST_BODY, LONGEST_INPUT, MOST_CASES, number_at};
-use std::alloc::{AllocError, Global};
+use replay_cases::{Fixture, LONGEST_BODY, LossyWriter, MOST_CASES, number_at, read_case};
+use std::alloc::AllocError;
 use std::io;
-use std::io::{BufWriter, Read, Write};
+use std::io::Write;
 
 /// More than any walk of a stored case opens.
 const ALLOWANCE: u64 = 1000000;
@@ -23,18 +23,22 @@ const ALLOWANCE: u64 = 1000000;
 /// The units of a longer name are not looked up.
 const LONGEST_NAME: usize = 256;
 
-fn units_of(alloc: Global, bytes: &[u8]) -> Result<Vec<u16>, AllocError> {
-    let (pairs, _) = bytes.as_chunks::<2>();
-    pairs
-        .iter()
-        .map(|pair| u16::from_le_bytes(*pair))
-        .collect(alloc)
+/// The answer of the lookup of a name, where it is not too long.
+fn look_up<W: Write>(writer: &mut W, walk: Walk<'_>, table: &[u16], name: &[u8]) -> io::Result<()> {
+    let (pairs, _) = name.as_chunks::<2>();
+    if pairs.len() > LONGEST_NAME {
+        return Ok(());
+    }
+    let mut units = [0; LONGEST_NAME];
+    for (i, pair) in pairs.iter().enumerate() {
+        units[i] = u16::from_le_bytes(*pair);
+    }
+    walk.write_lookup(writer, table, &units[..pairs.len()])
 }
 
 /// The label, and the answer of the lookup where a name follows.
 fn run_lookup<W: Write>(
     writer: &mut W,
-    alloc: Global,
     walk: Walk<'_>,
     table: &[u16],
     body: &[u8],
@@ -44,21 +48,13 @@ fn run_lookup<W: Write>(
         .and_then(|rest| rest.split_at_checked(number_at(body, 0)))
     {
         writer.write_all(label)?;
-        let units = units_of(alloc, name)?;
-        if units.len() <= LONGEST_NAME {
-            walk.write_lookup(writer, table, &units)?;
-        }
+        look_up(writer, walk, table, name)?;
     }
     writeln!(writer)
 }
 
 /// A lookup with an allowance and a part of the table, as the case says.
-fn run_lent<W: Write>(
-    writer: &mut W,
-    alloc: Global,
-    fixture: &Fixture,
-    body: &[u8],
-) -> io::Result<()> {
+fn run_lent<W: Write>(writer: &mut W, fixture: &Fixture, body: &[u8]) -> io::Result<()> {
     let (Some(rest), Some(table)) = (body.get(8..), fixture.table.get(..number_at(body, 4))) else {
         return Ok(());
     };
@@ -67,12 +63,11 @@ fn run_lent<W: Write>(
         allowance: number_at(body, 0) as u64,
         shown: Shown::Places,
     };
-    run_lookup(writer, alloc, walk, table, rest)
+    run_lookup(writer, walk, table, rest)
 }
 
 fn run_case<W: Write>(
     writer: &mut W,
-    alloc: Global,
     fixture: &mut Fixture,
     operation: Operation,
     body: &[u8],
@@ -100,35 +95,30 @@ fn run_case<W: Write>(
                 allowance: ALLOWANCE,
                 shown,
             };
-            run_lookup(writer, alloc, walk, &fixture.table, body)
+            run_lookup(writer, walk, &fixture.table, body)
         }
-        Operation::LookUpLent => run_lent(writer, alloc, fixture, body),
+        Operation::LookUpLent => run_lent(writer, fixture, body),
     }
 }
 
-fn run_cases<W: Write>(
-    writer: &mut W,
-    alloc: Global,
-    fixture: &mut Fixture,
-    input: &[u8],
-) -> io::Result<()> {
-    for case in (Cases { input, tag: 4 }).take(MOST_CASES) {
-        if let Ok(operation) = Operation::try_from(number_at(case.tag, 0)) {
-            run_case(writer, alloc, fixture, operation, case.body)?;
-        }
-    }
-    Ok(())
-}
-
-fn main(rt: HostRuntime) -> io::Result<()> {
+fn main(rt: HostRuntime) -> Result<(), AllocError> {
     let alloc = rt.alloc();
-    let mut input = Vec::new(alloc);
-    rt.reader().take(LONGEST_INPUT).read_to_end(&mut input)?;
     let mut fixture = Fixture {
         memory: vec![in alloc; 0; LONGEST_BODY]?,
         table: vec![in alloc; 0; 65536]?,
     };
-    let mut writer = BufWriter::new(alloc, io::writer(&rt))?;
-    run_cases(&mut writer, alloc, &mut fixture, &input)?;
-    writer.flush()
+    let mut reader = rt.stdin();
+    let mut writer = LossyWriter::new(io::writer(&rt));
+    let mut head = [0; 8];
+    let mut room = [0; LONGEST_BODY];
+    for _case in 0..MOST_CASES {
+        let Ok(Some(case)) = read_case(&mut reader, &mut head, &mut room) else {
+            break;
+        };
+        if let Ok(operation) = Operation::try_from(number_at(case.tag, 0)) {
+            let _ = run_case(&mut writer, &mut fixture, operation, case.body);
+            let _ = writer.flush();
+        }
+    }
+    Ok(())
 }
