@@ -9,11 +9,11 @@
 use directory::Directory;
 use refusal::Fault;
 use replay_cases::{
-    Cases, Fixture, LONGEST_BODY, LONGEST_INPUT, MOST_CASES, Setup, UnknownSetup, number_at,
+    Fixture, LONGEST_BODY, LossyWriter, MOST_CASES, Setup, UnknownSetup, number_at, read_case,
 };
-use std::alloc::Global;
+use std::alloc::AllocError;
 use std::io;
-use std::io::{BufWriter, Read, Write};
+use std::io::Write;
 
 /// More than any stored directory has records; more marks are not lent.
 const MOST_MARKS: usize = 256;
@@ -71,12 +71,7 @@ fn check<W: Write>(
 }
 
 /// A check, where no more marks and units are to be lent than there are.
-fn run_check<W: Write>(
-    writer: &mut W,
-    alloc: Global,
-    fixture: &Fixture,
-    body: &[u8],
-) -> io::Result<()> {
+fn run_check<W: Write>(writer: &mut W, fixture: &Fixture, body: &[u8]) -> io::Result<()> {
     if let Some(label) = body.get(12..) {
         writer.write_all(label)?;
     }
@@ -85,37 +80,45 @@ fn run_check<W: Write>(
     if let Some(table) = fixture.table.get(..number_at(body, 8))
         && count <= MOST_MARKS
     {
-        let mut marks = vec![in alloc; mark; count]?;
-        check(writer, fixture.directory(), table, &mut marks)?;
+        let mut marks = [mark; MOST_MARKS];
+        check(writer, fixture.directory(), table, &mut marks[..count])?;
     }
     writeln!(writer)
 }
 
-fn run_cases<W: Write>(
+fn run_case<W: Write>(
     writer: &mut W,
-    alloc: Global,
     fixture: &mut Fixture,
-    input: &[u8],
+    operation: Operation,
+    body: &[u8],
 ) -> io::Result<()> {
-    for case in (Cases { input, tag: 4 }).take(MOST_CASES) {
-        match Operation::try_from(number_at(case.tag, 0)) {
-            Ok(Operation::SetUp(setup)) => fixture.set_up(setup, case.body),
-            Ok(Operation::Check) => run_check(writer, alloc, fixture, case.body)?,
-            Err(_) => {}
+    match operation {
+        Operation::SetUp(setup) => {
+            fixture.set_up(setup, body);
+            Ok(())
         }
+        Operation::Check => run_check(writer, fixture, body),
     }
-    Ok(())
 }
 
-fn main(rt: HostRuntime) -> io::Result<()> {
+fn main(rt: HostRuntime) -> Result<(), AllocError> {
     let alloc = rt.alloc();
-    let mut input = Vec::new(alloc);
-    rt.reader().take(LONGEST_INPUT).read_to_end(&mut input)?;
     let mut fixture = Fixture {
         memory: vec![in alloc; 0; LONGEST_BODY]?,
         table: vec![in alloc; 0; UNITS]?,
     };
-    let mut writer = BufWriter::new(alloc, io::writer(&rt))?;
-    run_cases(&mut writer, alloc, &mut fixture, &input)?;
-    writer.flush()
+    let mut reader = rt.stdin();
+    let mut writer = LossyWriter::new(io::writer(&rt));
+    let mut head = [0; 8];
+    let mut room = [0; LONGEST_BODY];
+    for _case in 0..MOST_CASES {
+        let Ok(Some(case)) = read_case(&mut reader, &mut head, &mut room) else {
+            break;
+        };
+        if let Ok(operation) = Operation::try_from(number_at(case.tag, 0)) {
+            let _ = run_case(&mut writer, &mut fixture, operation, case.body);
+            let _ = writer.flush();
+        }
+    }
+    Ok(())
 }
