@@ -541,10 +541,10 @@ one_unit l a x y s t = same
 pub one_set_up : Coincide set-up.Post (λ l x. x)
 one_set_up l a x y s t p q = refl
 
-pub one_set_up_memory : LeavesOne set-up.Post (λ l s. s.0.now.memory.items)
+pub one_set_up_memory : LeavesOne set-up.Post (λ l s. s.0.now.memory.now)
 one_set_up_memory l a x y s t p q = same p.0 q.0
 
-pub one_set_up_table : LeavesOne set-up.Post (λ l s. s.0.now.table.items)
+pub one_set_up_table : LeavesOne set-up.Post (λ l s. s.0.now.table.now)
 one_set_up_table l a x y s t p q = same p.1 q.1
 
 pub one_fixture_root : Coincide fixture-directory.Post (λ l x. x.root.now)

@@ -56,9 +56,9 @@ impl TryFrom<usize> for Setup {
 
 /// What stays lent from case to case.
 #[derive(Drop)]
-pub struct Fixture {
-    pub memory: Vec<u8>,
-    pub table: Vec<u16>,
+pub struct Fixture<'a> {
+    pub memory: &'a mut [u8],
+    pub table: &'a mut [u16],
 }
 
 impl MadeTable {
@@ -101,11 +101,11 @@ fn write_units(table: &mut [u16], from: usize, bytes: &[u8])
     }
 }
 
-impl Fixture {
+impl Fixture<'_> {
     /// Changes what is lent as a case says that holds these bytes.
     pub fn set_up(&mut self, setup: Setup, bytes: &[u8])
-        ensures memory { self.new.memory.items ≡ memory_after setup bytes.now self.old.memory.items }
-        ensures table { self.new.table.items ≡ table_after setup bytes.now self.old.table.items }
+        ensures memory { self.new.memory.now ≡ memory_after setup bytes.now self.old.memory.now }
+        ensures table { self.new.table.now ≡ table_after setup bytes.now self.old.table.now }
     {
         match setup {
             Setup::Memory => write_bytes(&mut self.memory, bytes),
@@ -117,11 +117,11 @@ impl Fixture {
 
     /// The directory in the memory.
     pub fn directory(&self) -> Directory<'_>
-        ensures root { result.root.now ≡ root_in (sizes_in self.now.memory.items) (contents_in self.now.memory.items) }
-        ensures pool { result.pool.now ≡ pool_in (sizes_in self.now.memory.items) (contents_in self.now.memory.items) }
-        ensures cluster_size { result.cluster_size ≡ number_in (sizes_in self.now.memory.items) 0 }
+        ensures root { result.root.now ≡ root_in (sizes_in self.now.memory.now) (contents_in self.now.memory.now) }
+        ensures pool { result.pool.now ≡ pool_in (sizes_in self.now.memory.now) (contents_in self.now.memory.now) }
+        ensures cluster_size { result.cluster_size ≡ number_in (sizes_in self.now.memory.now) 0 }
     {
-        let memory = self.memory.as_slice();
+        let memory: &[u8] = self.memory;
         match memory.split_at_checked(SIZES) {
             Some((sizes, contents)) => directory_in(sizes, contents),
             None => directory_in(memory, &[]),

@@ -11,7 +11,6 @@ use refusal::Fault;
 use replay_cases::{
     Fixture, LONGEST_BODY, LossyWriter, MOST_CASES, Setup, UnknownSetup, number_at, read_case,
 };
-use std::alloc::AllocError;
 use std::io;
 use std::io::Write;
 
@@ -71,7 +70,7 @@ fn check<W: Write>(
 }
 
 /// A check, where no more marks and units are to be lent than there are.
-fn run_check<W: Write>(writer: &mut W, fixture: &Fixture, body: &[u8]) -> io::Result<()> {
+fn run_check<W: Write>(writer: &mut W, fixture: &Fixture<'_>, body: &[u8]) -> io::Result<()> {
     if let Some(label) = body.get(12..) {
         writer.write_all(label)?;
     }
@@ -88,7 +87,7 @@ fn run_check<W: Write>(writer: &mut W, fixture: &Fixture, body: &[u8]) -> io::Re
 
 fn run_case<W: Write>(
     writer: &mut W,
-    fixture: &mut Fixture,
+    fixture: &mut Fixture<'_>,
     operation: Operation,
     body: &[u8],
 ) -> io::Result<()> {
@@ -101,11 +100,12 @@ fn run_case<W: Write>(
     }
 }
 
-fn main(rt: HostRuntime) -> Result<(), AllocError> {
-    let alloc = rt.alloc();
+fn main(rt: HostRuntime) {
+    let mut memory = [0; LONGEST_BODY];
+    let mut table = [0; UNITS];
     let mut fixture = Fixture {
-        memory: vec![in alloc; 0; LONGEST_BODY]?,
-        table: vec![in alloc; 0; UNITS]?,
+        memory: &mut memory,
+        table: &mut table,
     };
     let mut reader = rt.stdin();
     let mut writer = LossyWriter::new(io::writer(&rt));
@@ -120,5 +120,4 @@ fn main(rt: HostRuntime) -> Result<(), AllocError> {
             let _ = writer.flush();
         }
     }
-    Ok(())
 }

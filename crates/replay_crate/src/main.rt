@@ -13,7 +13,6 @@ mod operation;
 use answers::{Shown, Walk};
 use operation::Operation;
 use replay_cases::{Fixture, LONGEST_BODY, LossyWriter, MOST_CASES, number_at, read_case};
-use std::alloc::AllocError;
 use std::io;
 use std::io::Write;
 
@@ -54,7 +53,7 @@ fn run_lookup<W: Write>(
 }
 
 /// A lookup with an allowance and a part of the table, as the case says.
-fn run_lent<W: Write>(writer: &mut W, fixture: &Fixture, body: &[u8]) -> io::Result<()> {
+fn run_lent<W: Write>(writer: &mut W, fixture: &Fixture<'_>, body: &[u8]) -> io::Result<()> {
     let (Some(rest), Some(table)) = (body.get(8..), fixture.table.get(..number_at(body, 4))) else {
         return Ok(());
     };
@@ -66,9 +65,41 @@ fn run_lent<W: Write>(writer: &mut W, fixture: &Fixture, body: &[u8]) -> io::Res
     run_lookup(writer, walk, table, rest)
 }
 
+/// The label, and the entries of the listing.
+fn run_listing<W: Write>(
+    writer: &mut W,
+    fixture: &Fixture<'_>,
+    shown: Shown,
+    label: &[u8],
+) -> io::Result<()> {
+    let walk = Walk {
+        directory: fixture.directory(),
+        allowance: ALLOWANCE,
+        shown,
+    };
+    writer.write_all(label)?;
+    walk.write_listing(writer)?;
+    writeln!(writer)
+}
+
+/// A lookup over the whole table.
+fn run_whole<W: Write>(
+    writer: &mut W,
+    fixture: &Fixture<'_>,
+    shown: Shown,
+    body: &[u8],
+) -> io::Result<()> {
+    let walk = Walk {
+        directory: fixture.directory(),
+        allowance: ALLOWANCE,
+        shown,
+    };
+    run_lookup(writer, walk, fixture.table, body)
+}
+
 fn run_case<W: Write>(
     writer: &mut W,
-    fixture: &mut Fixture,
+    fixture: &mut Fixture<'_>,
     operation: Operation,
     body: &[u8],
 ) -> io::Result<()> {
@@ -77,35 +108,18 @@ fn run_case<W: Write>(
             fixture.set_up(setup, body);
             Ok(())
         }
-        Operation::List(shown) => {
-            let directory = fixture.directory();
-            writer.write_all(body)?;
-            Walk {
-                directory,
-                allowance: ALLOWANCE,
-                shown,
-            }
-            .write_listing(writer)?;
-            writeln!(writer)
-        }
-        Operation::LookUp(shown) => {
-            let directory = fixture.directory();
-            let walk = Walk {
-                directory,
-                allowance: ALLOWANCE,
-                shown,
-            };
-            run_lookup(writer, walk, &fixture.table, body)
-        }
+        Operation::List(shown) => run_listing(writer, fixture, shown, body),
+        Operation::LookUp(shown) => run_whole(writer, fixture, shown, body),
         Operation::LookUpLent => run_lent(writer, fixture, body),
     }
 }
 
-fn main(rt: HostRuntime) -> Result<(), AllocError> {
-    let alloc = rt.alloc();
+fn main(rt: HostRuntime) {
+    let mut memory = [0; LONGEST_BODY];
+    let mut table = [0; 65536];
     let mut fixture = Fixture {
-        memory: vec![in alloc; 0; LONGEST_BODY]?,
-        table: vec![in alloc; 0; 65536]?,
+        memory: &mut memory,
+        table: &mut table,
     };
     let mut reader = rt.stdin();
     let mut writer = LossyWriter::new(io::writer(&rt));
@@ -120,5 +134,4 @@ fn main(rt: HostRuntime) -> Result<(), AllocError> {
             let _ = writer.flush();
         }
     }
-    Ok(())
 }
