@@ -122,6 +122,7 @@ use Rattle.replay_cases.proofs.number_at.Reads as number-at
 use Rattle.replay_cases.proofs.part.Reads as part-reads
 use Rattle.replay_cases.proofs.directory_in.Reads as directory-in
 use Rattle.replay_cases.proofs.cases.CasesIterator.next.Reads as next-case
+use Rattle.replay_cases.proofs.LossyWriter.new.Reads as lossy-new
 use Rattle.replay_cases.proofs.fixture.SetupTryFromUsize.try_from.Reads as try-from-setup
 use Rattle.replay_cases.proofs.MadeTable.unit.Reads as unit-reads
 use Rattle.replay_cases.proofs.Fixture.set_up.Reads as set-up
@@ -531,6 +532,12 @@ one_next_case l a x y s t p q = (cases-one a.0.now x y s.0.now t.0.now p.0 q.0).
 
 pub one_cases_left : LeavesOne next-case.Post (λ l s. cases_left s.0.now)
 one_cases_left l a x y s t p q = (cases-one a.0.now x y s.0.now t.0.now p.0 q.0).1
+
+pub one_lossy_writer : (W : _) (a1 : _) (a2 : _) (a3 : _) → Coincide (lossy-new.Post W a1 a2 a3) (λ l x. x.writer)
+one_lossy_writer W a1 a2 a3 l a x y s t p q = same p.0 q.0
+
+pub one_lossy_count : (W : _) (a1 : _) (a2 : _) (a3 : _) → Coincide (lossy-new.Post W a1 a2 a3) (λ l x. x.count)
+one_lossy_count W a1 a2 a3 l a x y s t p q = same p.1 q.1
 
 pub one_try_from_setup : Coincide try-from-setup.Post (λ l x. x)
 one_try_from_setup l a x y s t = setup-one a.0 x y
