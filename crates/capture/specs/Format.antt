@@ -70,6 +70,12 @@ records_in s = option_and_then (λ first.
     let size = length first.0 in
     if fits_pool size s && is_one_head (head_size + size) s then Some (records_of size s) else None) (split_field s record_tag)
 
+-- how many bytes each of them has
+unfoldable pub record_size_in : List ℕ → Option ℕ
+record_size_in s = option_and_then (λ first.
+    let size = length first.0 in
+    if fits_pool size s && is_one_head (head_size + size) s then Some size else None) (split_field s record_tag)
+
 abbrev pub is_end : List ℕ → Bool
 is_end s = pointwise nat_eq s end_field
 
@@ -91,6 +97,18 @@ captured s =
     option_and_then (λ size.
     option_and_then (λ fields.
     option_map (λ records. record { root = root.0; cluster_size = size; records = records }) (records_in fields))
+    (before_end cluster.1)) (cluster_size_in cluster.0)) (split_field root.1 cluster_tag)) (split_field s root_tag)
+
+-- how many bytes each record has, and the fields of all of them; with no records 0, and none
+unfoldable pub captured_fields : List ℕ → Option (ℕ × List ℕ)
+captured_fields s =
+    if nat_lt most_bytes (length s) then None
+    else option_and_then (λ root.
+    if is_end root.1 then Some (0, [])
+    else option_and_then (λ cluster.
+    option_and_then (λ size.
+    option_and_then (λ fields.
+    option_map (λ record_size. (record_size, fields)) (record_size_in fields))
     (before_end cluster.1)) (cluster_size_in cluster.0)) (split_field root.1 cluster_tag)) (split_field s root_tag)
 
 unfoldable pub parsed : List ℕ → Result Contents Refusal

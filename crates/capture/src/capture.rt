@@ -1,6 +1,6 @@
 ghost use Rattle.std.specs.Prelude.{◌≡◌, ◌≤◌, ◌<◌, ◌+◌, ◌++◌, length, take, drop, option_map, IfSome, IsTrue};
 ghost use Rattle.std.specs.List.{concat};
-ghost use Rattle.capture.specs.Format.{split_field, fields_of, is_one_head, fits_pool, records_in, records_of, captured, put_over, head_size, most_pool};
+ghost use Rattle.capture.specs.Format.{split_field, fields_of, is_one_head, fits_pool, records_in, record_size_in, records_of, captured, captured_fields, put_over, head_size, most_pool};
 
 /// What stands before a field's bytes: its tag, and their number in two bytes.
 const HEAD_SIZE: usize = 3;
@@ -77,9 +77,10 @@ fn fits_pool(fields: &[u8], size: usize) -> bool
 }
 
 /// The size of the records whose fields these are: one or more, all of one size, that fit a pool.
-#[tactic(auto, unfolding(crate::specs::Format::records_in))]
+#[tactic(auto, unfolding(crate::specs::Format::records_in, crate::specs::Format::record_size_in))]
 fn record_size(fields: &[u8]) -> Option<usize>
     ensures is { option_map (λ size. records_of size fields.now) result ≡ records_in fields.now }
+    ensures value { result ≡ record_size_in fields.now }
     ensures fit { IfSome result (λ size. length (concat (records_of size fields.now)) ≤ most_pool) }
     ensures size { IfSome result (λ size. size < 65536) }
 {
@@ -101,12 +102,13 @@ fn put_at(pool: &mut [u8], at: usize, bytes: &[u8])
 }
 
 impl<'a> Capture<'a> {
-    ghost use Rattle.capture.specs.Contents.{contents_of};
+    ghost use Rattle.capture.specs.Contents.{contents_of, parts_of};
 
     /// Every byte of the input is accounted for, or there is none.
-    #[tactic(auto, unfolding(crate::specs::Format::captured))]
+    #[tactic(auto, unfolding(crate::specs::Format::captured, crate::specs::Format::captured_fields))]
     pub(crate) fn read(input: &'a [u8]) -> Option<Capture<'a>>
-        ensures { option_map contents_of result ≡ captured input.now }
+        ensures is { option_map contents_of result ≡ captured input.now }
+        ensures parts { option_map parts_of result ≡ captured_fields input.now }
     {
         if input.len() > MOST_BYTES {
             return None;

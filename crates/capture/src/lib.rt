@@ -4,8 +4,8 @@
 mod capture;
 
 ghost use Rattle.std.specs.Prelude.{◌≡◌, length};
-ghost use Rattle.capture.specs.Format.{parsed, root_of, pool_of, put_over};
-ghost use Rattle.capture.specs.Contents.{told};
+ghost use Rattle.capture.specs.Format.{parsed, captured_fields, root_of, pool_of, put_over};
+ghost use Rattle.capture.specs.Contents.{told, parts_told};
 
 pub use capture::Capture;
 use refusal::Refusal;
@@ -13,7 +13,8 @@ use refusal::Refusal;
 /// Every byte of the input is accounted for, or 26.
 #[tactic(auto, unfolding(crate::specs::Format::parsed))]
 pub fn parse(input: &[u8]) -> Result<Capture<'_>, Refusal>
-    ensures { told result ≡ parsed input.now }
+    ensures is { told result ≡ parsed input.now }
+    ensures parts { parts_told result ≡ captured_fields input.now }
 {
     Capture::read(input).ok_or(Refusal::MalformedCapture)
 }

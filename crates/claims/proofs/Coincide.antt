@@ -24,7 +24,7 @@ use Rattle.directory.specs.Seen.{answer_seen, opened, node_seen, lent_bytes, bel
 use Rattle.collation.specs.declared.file_names.SoughtName.{SoughtName}
 use Rattle.collation.specs.Names.{sought_units, IsSoughtName}
 use Rattle.index.specs.Seen.{stepped}
-use Rattle.capture.specs.Contents.{told}
+use Rattle.capture.specs.Contents.{told, parts_told}
 use Rattle.replay_cases.specs.declared.cases.Case.{Case}
 use Rattle.replay_cases.specs.declared.cases.Cases.{Cases}
 use Rattle.replay_cases.specs.Cases.{TakesCase}
@@ -54,6 +54,7 @@ use Rattle.index_entry.proofs.IndexEntry.is_last_entry.Reads as is-last-entry
 use Rattle.index_entry.proofs.IndexEntry.subnode_vcn.Reads as subnode-vcn
 use Rattle.index_entry.proofs.IndexEntry.key.Reads as key-reads
 use Rattle.file_name.proofs.file_name.FileNameTryFromRefSliceU8.try_from.Reads as file-name
+use Rattle.file_name.proofs.name.Reads as name-reads
 use Rattle.upcase_table.proofs.LeUnits.new.Reads as le-units
 use Rattle.upcase_table.proofs.upcase_table.UpcaseTableTryFromRefSliceU16.try_from.Reads as upcase-table
 use Rattle.upcase_table.proofs.compare.Reads as compare-reads
@@ -292,6 +293,9 @@ one_key l a x y s t = same
 pub one_file_name : Coincide file-name.Post (λ l x. name_read x)
 one_file_name l a x y s t = name-one a.0 x y
 
+pub one_name : Coincide name-reads.Post (λ l x. x.now)
+one_name l a x y s t = same
+
 pub one_le_units : Coincide le-units.Post (λ l x. x)
 one_le_units l a x y s t = same
 
@@ -470,7 +474,10 @@ pub one_next_entry_left : LeavesOne next-entry.Post (λ l s. s.0.now)
 one_next_entry_left l a x y s t p q = (first-one directory.made (λ left. left) a.0.now x y s.0.now t.0.now p.0 q.0).1
 
 pub one_parse : Coincide parse.Post (λ l x. told x)
-one_parse l a x y s t = same
+one_parse l a x y s t p q = same p.0 q.0
+
+pub one_parse_parts : Coincide parse.Post (λ l x. parts_told x)
+one_parse_parts l a x y s t p q = same p.1 q.1
 
 pub one_captured_root : Coincide captured-root.Post (λ l x. x.now)
 one_captured_root l a x y s t = same
