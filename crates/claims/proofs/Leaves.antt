@@ -3,6 +3,7 @@ use Rattle.std.proofs.Common.{ℕ, ◌≡◌, ◌+◌, ◌*◌, ◌≤◌, ◌<�
 use Rattle.std.proofs.lemmas.Grind.{common_steps}
 use Rattle.std.proofs.Math.Arith.{digits_div, digits_mod}
 use Rattle.le.specs.Le.{bytes_at, le_at}
+use Rattle.le.proofs.Laws.{join, below as below_power}
 use Rattle.file_reference.specs.Reference.{reference_of}
 use Rattle.index_entry.specs.Entry.{entry_at}
 use Rattle.upcase_table.specs.Names.{name_order-total}
@@ -19,10 +20,10 @@ as_long node at entry is = grind (arith, common_steps)
 module _ (bytes : List ℕ) (small : (at : ℕ) → slice_index bytes at < 256) where
   -- the number of the first six bytes is below the number of the next two, at its place
   below : bytes_at 6 bytes 0 < 281474976710656
-  below = omega (arith, small 0, small 1, small 2, small 3, small 4, small 5)
+  below = below_power 6 bytes 0 small
 
   joined : bytes_at 8 bytes 0 ≡ bytes_at 2 bytes 6 * 281474976710656 + bytes_at 6 bytes 0
-  joined = omega arith
+  joined = let whole : bytes_at 8 bytes 0 ≡ bytes_at 6 bytes 0 + 281474976710656 * bytes_at 2 bytes 6 = join 6 2 bytes 0 in omega arith
 
 pub split : ReferenceSplit
 unfolding reference_of

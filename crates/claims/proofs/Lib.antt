@@ -8,3 +8,4 @@ pub mod Lookup
 pub mod Nodes
 pub mod Places
 pub mod Totals
+pub mod Units
