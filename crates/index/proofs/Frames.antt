@@ -2,7 +2,7 @@
 use Rattle.std.proofs.Common.{zero, suc, sub-one, add-one, ℕ, ◌≡◌, ◌+◌, ◌-◌, ◌<◌, ◌≤◌, List, [], ◌∷◌, length, ◌≢◌, Bool, true, false, nat_eq, nat_lt}
 use Rattle.std.proofs.Common.{get_or, set, refl, sym, ◌∙◌, ap, arith}
 use Rattle.directory.specs.Limits.{level_limit}
-use Rattle.std.proofs.lemmas.List.{ext_get_or}
+use Rattle.std.proofs.lemmas.List.{ext_get_or, get_or_past}
 use Rattle.std.proofs.lemmas.Grind.{common_steps}
 use Rattle.index.specs.declared.cursor.Level.{Level}
 use Rattle.index.specs.declared.cursor.Cursor.{Cursor}
@@ -46,14 +46,21 @@ frames-replaced slots depth level some within =
     rw back at its
 
 -- past the levels all is blank
-slots_of-past : (levels : List Level) (at : ℕ) → length levels ≤ at → at < level_limit → get_or (slots_of levels) at blank ≡ blank
+slots-blank : (levels : List Level) (at : ℕ) → length levels ≤ at → at < level_limit → get_or (slots_of levels) at blank ≡ blank
 unfolding slots_of
-slots_of-past [] at past inside = grind (arith, common_steps)
-slots_of-past (level ∷ above) at past inside =
-    let more = slots_of-past above at (omega arith) inside in
+slots-blank [] at past inside = grind (arith, common_steps)
+slots-blank (level ∷ above) at past inside =
+    let more = slots-blank above at (omega arith) inside in
     let long = length-slots_of above in
     let other : at ≢ length above = omega arith in
     grind (arith, common_steps)
+
+pub slots_of-past : (levels : List Level) (at : ℕ) → length levels ≤ at → get_or (slots_of levels) at blank ≡ blank
+slots_of-past levels at past = by (nat_lt at level_limit) refl
+  where
+    by : (low : Bool) → nat_lt at level_limit ≡ low → get_or (slots_of levels) at blank ≡ blank
+    by true is = slots-blank levels at past (grind (arith, common_steps))
+    by false is = let long = length-slots_of levels in get_or_past (slots_of levels) at blank (grind (arith, common_steps))
 
 set-twice : (slots : List Level) (at : ℕ) (one other : Level) → set (set slots at one) at other ≡ set slots at other
 set-twice [] at one other = refl
@@ -79,7 +86,7 @@ slots-dropped slots depth some within tidy =
     cleared : slots_of (blank ∷ frames slots (depth - 1)) ≡ slots_of (frames slots (depth - 1))
     cleared =
         let long = length-frames slots (depth - 1) in
-        let past = slots_of-past (frames slots (depth - 1)) (depth - 1) (omega arith) (omega arith) in
+        let past = slots_of-past (frames slots (depth - 1)) (depth - 1) (omega arith) in
         grind (arith, common_steps)
 
 pub slots-added : (slots : List Level) (depth : ℕ) (level : Level) → slots ≡ slots_of (frames slots depth)
@@ -136,7 +143,7 @@ slots-cleared slots depth long within blanks =
         by true is = let below : at < depth = grind (arith, common_steps) in sym (slots_of-at slots depth at below within)
         by false is =
             let past : depth ≤ at = grind (arith, common_steps) in let its = many in
-            blanks at past (omega arith) ∙ sym (slots_of-past (frames slots depth) at (omega arith) (omega arith))
+            blanks at past (omega arith) ∙ sym (slots_of-past (frames slots depth) at (omega arith))
 
 -- the slots of levels have those levels
 pub frames-slots : (levels : List Level) → length levels ≤ level_limit → frames (slots_of levels) (length levels) ≡ levels

@@ -100,7 +100,7 @@ module _ (d : Passed) (spent : ℕ → Bool) where
   then_turns-same one other (refuses refusal o) most light same = refl
   then_turns-same one other (goes_on levels o) most light same = same levels o light
 
-  enough : (few more : ℕ) (levels : List Level) (o : ℕ) → weight levels < few → weight levels < more → turns few d spent levels o ≡ turns more d spent levels o
+  pub enough : (few more : ℕ) (levels : List Level) (o : ℕ) → weight levels < few → weight levels < more → turns few d spent levels o ≡ turns more d spent levels o
   unfolding turns
   enough zero more levels o here there = absurd (omega arith)
   enough (suc few) zero levels o here there = absurd (omega arith)
