@@ -86,7 +86,7 @@ said-same (item entry o rest) other zero (more, is, extends) settled = ap (λ l.
 said-same (item entry o rest) other (suc at) (more, is, extends) settled = ap (λ l. said_at l (suc at)) is ∙ said-same rest more at extends settled
 
 -- an allowance that is spent later gives the same
-later-same : (d : Lent) (sooner later : ℕ → Bool) (before : ℕ) → ((o : ℕ) → sooner o ≡ false → later o ≡ false) → NotSpent d sooner before
+pub later-same : (d : Lent) (sooner later : ℕ → Bool) (before : ℕ) → ((o : ℕ) → sooner o ≡ false → later o ≡ false) → NotSpent d sooner before
     → answer_after d later before new_cursor ≡ answer_after d sooner before new_cursor
 unfolding listing
 later-same d sooner later before follows settled =
@@ -95,7 +95,7 @@ later-same d sooner later before follows settled =
     (λ o is. settled o (steps_are_the_listing d sooner before ∙ is))
     ∙ sym (steps_are_the_listing d sooner before)
 
-spent-later : (few more : ℕ) → few ≤ more → (o : ℕ) → spent_at few o ≡ false → spent_at more o ≡ false
+pub spent-later : (few more : ℕ) → few ≤ more → (o : ℕ) → spent_at few o ≡ false → spent_at more o ≡ false
 spent-later few more less o is = grind (arith, common_steps)
 
 pub more_changes_nothing : MoreChangesNothing

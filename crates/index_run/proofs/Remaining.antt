@@ -45,17 +45,17 @@ module _ (d : Passed) (spent : ℕ → Bool) where
   list_below-node (suc left) entries o =
       ap (λ n. list_node (λ entry x. list_subnode (list_below d spent n) (subnode d (suc left) (spent x) entry) x) entries o) (sym (sub-one (suc left)))
 
-  abbrev due_then : Result EntryPlaced Refusal → ℕ → Listing → Listing
+  abbrev pub due_then : Result EntryPlaced Refusal → ℕ → Listing → Listing
   due_then (Ok entry) o rest = item entry o rest
   due_then (Err refusal) o rest = stop refusal o
 
-  abbrev rest_by : ℕ → Stage → NodeSeen → ℕ → ℕ → Listing
+  abbrev pub rest_by : ℕ → Stage → NodeSeen → ℕ → ℕ → Listing
   rest_by left Fresh its next o = list_node (list_down left) (entries_of its) o
   rest_by left Going its next o = list_node (list_down left) (entries_at its next) o
   rest_by left (Due at) its next o = due_then (entry_in its at) o (list_node (list_down left) (entries_at its next) o)
   rest_by left Ended its next o = done o
 
-  abbrev rest_in : ℕ → Result NodeSeen Refusal → Level → ℕ → Listing
+  abbrev pub rest_in : ℕ → Result NodeSeen Refusal → Level → ℕ → Listing
   rest_in left (Ok its) level o = rest_by left level.stage its level.next o
   rest_in left (Err refusal) level o = stop refusal o
 

@@ -22,15 +22,15 @@ use Rattle.index_run.specs.Run.{answer_after, said_at, StepsAreTheListing}
 
 module _ (d : Passed) (spent : ℕ → Bool) where
   -- an outcome is what a listing says first, and leaves what it says then
-  abbrev FitsEntry : Option EntryPlaced → ℕ → List Level → Listing → Type 0
+  abbrev pub FitsEntry : Option EntryPlaced → ℕ → List Level → Listing → Type 0
   FitsEntry (Some entry) o levels l = (l ≡ item entry o (remaining d spent levels o)) × IsKept d levels
   FitsEntry None o levels l = (l ≡ done o) × (levels ≡ [])
 
-  abbrev Fits : Answered → List Level → Listing → Type 0
+  abbrev pub Fits : Answered → List Level → Listing → Type 0
   Fits (Ok told) levels l = FitsEntry told.entry told.opened levels l
   Fits (Err fault) levels l = (l ≡ stop fault.refusal fault.opened) × (levels ≡ [])
 
-  abbrev FitsOutcome : Outcome → Listing → Type 0
+  abbrev pub FitsOutcome : Outcome → Listing → Type 0
   FitsOutcome its l = Fits its.answer its.levels l
 
   then-fits : (more : List Level → ℕ → Outcome) (its : Turn) (most : ℕ) (l : Listing) → IsLighter its most → Keeps d its → says d spent its ≡ l
@@ -51,7 +51,7 @@ module _ (d : Passed) (spent : ℕ → Bool) where
       (turn-lighter d spent levels o) (turn-keeps d spent levels o kept) (turn-says d spent levels o)
       (λ ls x less keeps. turns-fit most ls x (omega arith) keeps)
 
-  walk-fits : (levels : List Level) (o : ℕ) → IsKept d levels → FitsOutcome (walk d spent levels o) (remaining d spent levels o)
+  pub walk-fits : (levels : List Level) (o : ℕ) → IsKept d levels → FitsOutcome (walk d spent levels o) (remaining d spent levels o)
   unfolding walk
   walk-fits levels o kept = turns-fit (suc (weight levels)) levels o (omega arith) kept
 
