@@ -70,7 +70,7 @@ in-same : (sooner later : ℕ → Bool) → ((o : ℕ) → sooner o ≡ false �
 in-same sooner later follows kind sought (Ok d) settled = below-same d sooner later follows kind sought below_root (entries_of (root_node d)) 0 settled
 in-same sooner later follows kind sought (Err refusal) settled = refl
 
-spent-later : (few more : ℕ) → few ≤ more → (o : ℕ) → spent_at few o ≡ false → spent_at more o ≡ false
+pub spent-later : (few more : ℕ) → few ≤ more → (o : ℕ) → spent_at few o ≡ false → spent_at more o ≡ false
 spent-later few more less o is = grind (arith, common_steps)
 
 pub more_for : {K : Type 0} (kind : Kind K) → MoreFor kind
