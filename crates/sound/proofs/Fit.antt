@@ -61,13 +61,13 @@ module _ (d : Passed) {K : Type 0} (kind : Kind K) where
       → ((l : ℕ) → WellTree d kind l node.end node.start (entries_of node) → steps < suc l) → suc steps < suc left
   below-levels steps node _ (grown left _ t) lower = let less = lower left t in omega arith
 
-  tree-levels : (steps : ℕ) (node to : NodeSeen) (left : ℕ) → WellTree d kind left node.end node.start (entries_of node) → Down d steps node to
+  pub tree-levels : (steps : ℕ) (node to : NodeSeen) (left : ℕ) → WellTree d kind left node.end node.start (entries_of node) → Down d steps node to
       → steps < suc left
   tree-levels _ _ _ left t (here node) = omega arith
   tree-levels _ _ _ left t (into steps node below to entry has leads path) =
       below-levels steps below left (grown-below t entry below has leads) (λ l low. tree-levels steps below to l low path)
 
-  tree-well : {left used at : ℕ} {es : Entries} → WellTree d kind left used at es → WellFrom d kind used at es
+  pub tree-well : {left used at : ℕ} {es : Entries} → WellTree d kind left used at es → WellFrom d kind used at es
   tree-well (end_here left used at entry rest last there alone) = ends at entry rest last there (inl alone)
   tree-well (end_below left used at entry rest last there node opens below) = ends at entry rest last there (inr (node, opens))
   tree-well (name_here left used at entry rest name named there alone more) = goes_on at entry rest name named there (inl alone) (tree-well more)
@@ -78,7 +78,7 @@ module _ (d : Passed) {K : Type 0} (kind : Kind K) where
       → Well d kind to
   below-all_well node to _ (grown left _ t) lower = lower left t
 
-  tree-all_well : (steps : ℕ) (node to : NodeSeen) (left : ℕ) → WellTree d kind left node.end node.start (entries_of node) → Down d steps node to
+  pub tree-all_well : (steps : ℕ) (node to : NodeSeen) (left : ℕ) → WellTree d kind left node.end node.start (entries_of node) → Down d steps node to
       → Well d kind to
   tree-all_well _ _ _ left t (here node) = tree-well t
   tree-all_well _ _ _ left t (into steps node below to entry has leads path) =
@@ -117,7 +117,7 @@ module _ (d : Passed) {K : Type 0} (kind : Kind K) where
   pub tree-listed : {left used at : ℕ} {es : Entries} (t : WellTree d kind left used at es) → yielded (list_below d never left es 0) ≡ items (tree_of t)
   tree-listed {left} {used} {at} {es} t = ap yielded (list_below-node d never left es 0) ∙ yielded-lists ((tree-ends d kind (tree_of t) 0).1)
 
-  tree-keys : (node : NodeSeen) (left : ℕ) (t : WellTree d kind left node.end node.start (entries_of node)) → listed_keys d kind (suc left) node ≡ names t
+  pub tree-keys : (node : NodeSeen) (left : ℕ) (t : WellTree d kind left node.end node.start (entries_of node)) → listed_keys d kind (suc left) node ≡ names t
   tree-keys node left t =
       ap (λ n. keys_of kind (yielded (list_below d never n (entries_of node) 0))) (sub-one (suc left)) ∙ ap (keys_of kind) (tree-listed t)
       ∙ keys_of-items d kind (tree_of t)
@@ -158,7 +158,7 @@ module _ (d : Passed) {K : Type 0} (kind : Kind K) where
       (grow-entries left used (at + length entry.bytes) rest more
       (λ other node has. sub other node (later other entry rest ((is-named kind entry.bytes name named).goes_on) has)))
 
-  grow : (left : ℕ) (node : NodeSeen) → AtMost d (suc left) node → AllWell d kind node → WellTree d kind left node.end node.start (entries_of node)
+  pub grow : (left : ℕ) (node : NodeSeen) → AtMost d (suc left) node → AllWell d kind node → WellTree d kind left node.end node.start (entries_of node)
   grow zero node levels well =
       grow-entries 0 node.end node.start (entries_of node) (well 0 node (here node))
       (λ entry below has leads. absurd (let less = levels 1 below (into 0 node below below entry has leads (here below)) in omega arith))

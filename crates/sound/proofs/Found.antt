@@ -28,14 +28,14 @@ use Rattle.sound.proofs.WellTree.{IsSound, tree_of}
 
 module _ {K : Type 0} (kind : Kind K) (sought : K) where
   -- a search says whether there is one that is equal
-  searched-holds : (entries : List EntryPlaced) (answer : Answered) → Searched kind sought entries (keys_of kind entries) answer → Holds kind sought entries
+  pub searched-holds : (entries : List EntryPlaced) (answer : Answered) → Searched kind sought entries (keys_of kind entries) answer → Holds kind sought entries
       → Finds kind sought entries answer
   searched-holds entries answer (hit entry o is member equals) holds =
       record { holds = record { entry = entry; member = member; equals = equals }; count = o; is = is }
   searched-holds entries answer (miss o is not_equal) holds =
       let its = holds.equals in absurd (not_equal (its.0) (keys_of-contains kind entries (holds.entry) (its.0) (holds.member) (its.1)) (its.2))
 
-  searched-or_not : (entries : List EntryPlaced) (answer : Answered) → Searched kind sought entries (keys_of kind entries) answer
+  pub searched-or_not : (entries : List EntryPlaced) (answer : Answered) → Searched kind sought entries (keys_of kind entries) answer
       → Finds kind sought entries answer ⊎ ((count : ℕ) × (answer ≡ none count))
   searched-or_not entries answer (hit entry o is member equals) =
       inl (record { holds = record { entry = entry; member = member; equals = equals }; count = o; is = is })

@@ -1,11 +1,11 @@
 -- The name in the key of an entry.
-use Rattle.std.proofs.Common.{ℕ, ◌≡◌, Bool, true, false, List, [], ◌∷◌, ◌++◌, refl, sym, ◌∙◌, ap, Option, Some, None, Result, Ok, Err, Less, arith, ◌⊎◌, inl}
+use Rattle.std.proofs.Common.{ℕ, ◌≡◌, ◌+◌, ◌≤◌, Bool, true, false, List, [], ◌∷◌, ◌++◌, length, take, drop, refl, sym, ◌∙◌, ap, Option, Some, None, Result, Ok, Err, Less, arith, ◌⊎◌, inl}
 use Rattle.std.proofs.Common.{inr, subst}
 use Rattle.std.specs.Prelude.{Contains}
 use Rattle.std.proofs.lemmas.Grind.{common_steps}
 use Rattle.refusal.specs.declared.Refusal.{Refusal}
 use Rattle.refusal.specs.Then.{◌>>=◌}
-use Rattle.index_entry.specs.Entry.{is_last, key_of}
+use Rattle.index_entry.specs.Entry.{header_size, key_length_of, is_last, key_of}
 use Rattle.collation.specs.Kind.{Kind}
 use Rattle.directory.specs.Lent.{EntryPlaced}
 use Rattle.index_finder.specs.Find.{stands}
@@ -16,6 +16,19 @@ use Rattle.sound.proofs.Elements.{contains-none, contains-cases, contains-here, 
 pub last-no_key : (entry : List ℕ) → is_last entry ≡ true → key_of entry ≡ Ok None
 unfolding key_of
 last-no_key entry last = grind (arith, common_steps)
+
+-- a key is as long as its length field says, behind the header, within the entry
+pub record IsKeyOf (entry key : List ℕ) : Type 0 where
+  pub within : header_size + key_length_of entry ≤ length entry
+  pub is_part : take (key_length_of entry) (drop header_size entry) ≡ key
+  pub as_long : length key ≡ key_length_of entry
+
+pub key_of-part : (entry key : List ℕ) → key_of entry ≡ Ok (Some key) → IsKeyOf entry key
+unfolding key_of
+key_of-part entry key is =
+    let within : 16 + key_length_of entry ≤ length entry = grind (arith, common_steps) in
+    let is_part : take (key_length_of entry) (drop 16 entry) ≡ key = grind (arith, common_steps) in
+    record { within = within; is_part = is_part; as_long = rw (← is_part) (grind (arith, common_steps)) }
 
 -- an entry that has a key which reads as this name
 pub record IsNamed {K : Type 0} (kind : Kind K) (entry : List ℕ) (name : K) : Type 0 where

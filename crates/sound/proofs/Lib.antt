@@ -13,3 +13,4 @@ pub mod Passed
 pub mod Fit
 pub mod Whole
 pub mod Found
+pub mod FoundBelow

@@ -2,6 +2,7 @@
 use Rattle.std.proofs.Common.{ℕ, ◌≡◌, ◌≢◌, ◌<◌, ◌≤◌, List, [], ◌∷◌, ◌++◌, length, length-set, get_or, set, get_or-set_same, get_or-set_other, refl, sym, ◌∙◌}
 use Rattle.std.proofs.Common.{ap, subst, arith, ◌⊎◌, inl, inr}
 use Rattle.std.specs.Prelude.{Contains}
+use Rattle.std.proofs.lemmas.Grind.{common_steps}
 use Rattle.sound.specs.Fit.{NoRepeat}
 use Rattle.sound.proofs.Elements.{contains-none, contains-cases, contains-here, contains-there}
 use Rattle.sound.proofs.WellTree.{mark_all}
@@ -44,7 +45,7 @@ no_repeat marks [] fresh = tt
 no_repeat marks (x ∷ xs) fresh = let inside = fresh.0 in
     (without (set marks x 1) x xs (rw get_or-set_same refl) (fresh.2), no_repeat (set marks x 1) xs (fresh.2))
 
--- numbers below a bound, without marks
+-- numbers below a bound
 abbrev pub AllBelow : ℕ → List ℕ → Type 0
 AllBelow most [] = Unit {0}
 AllBelow most (x ∷ xs) = (x < most) × AllBelow most xs
@@ -53,7 +54,8 @@ pub below-append : (most : ℕ) (xs ys : List ℕ) → AllBelow most xs → AllB
 below-append most [] ys one other = other
 below-append most (x ∷ xs) ys one other = (one.0, below-append most xs ys (one.1) other)
 
-abbrev Free : List ℕ → List ℕ → Type 0
+-- none of them has a mark
+abbrev pub Free : List ℕ → List ℕ → Type 0
 Free marks [] = Unit {0}
 Free marks (x ∷ xs) = (get_or marks x 0 ≡ 0) × Free marks xs
 
@@ -63,11 +65,15 @@ free-set marks x (y ∷ ys) without free =
     let other : y ≢ x = λ same. without (let P : ℕ → Type 0 = λ n. Contains (y ∷ ys) n in subst P same (contains-here y ys)) in
     (rw get_or-set_other (free.0), free-set marks x ys (λ has. without (contains-there x y ys has)) (free.1))
 
-fresh-free : (most : ℕ) (marks xs : List ℕ) → most ≤ length marks → AllBelow most xs → NoRepeat xs → Free marks xs → Fresh marks xs
+pub fresh-free : (most : ℕ) (marks xs : List ℕ) → most ≤ length marks → AllBelow most xs → NoRepeat xs → Free marks xs → Fresh marks xs
 fresh-free most marks [] room below once free = tt
 fresh-free most marks (x ∷ xs) room below once free =
     let inside = below.0 in
     (omega arith, free.0, fresh-free most (set marks x 1) xs (simp length-set room) (below.1) (once.1) (free-set marks x xs (once.0) (free.1)))
+
+pub free-from : (marks xs : List ℕ) → ((i : ℕ) → Contains xs i → get_or marks i 0 ≡ 0) → Free marks xs
+free-from marks [] zeros = tt
+free-from marks (x ∷ xs) zeros = (zeros x (contains-here x xs), free-from marks xs (λ i has. zeros i (contains-there i x xs has)))
 
 pub fresh-from : (most : ℕ) (marks xs : List ℕ) → most ≤ length marks → ((x : ℕ) → x < most → get_or marks x 0 ≡ 0) → AllBelow most xs → NoRepeat xs
     → Fresh marks xs
@@ -77,7 +83,46 @@ fresh-from most marks xs room zeros below once = fresh-free most marks xs room b
     all [] below = tt
     all (y ∷ ys) below = (zeros y (below.0), all ys (below.1))
 
+-- what has no mark when its turn comes had none before
+free-unset : (marks : List ℕ) (x : ℕ) (ys : List ℕ) → (Contains ys x → ⊥) → Free (set marks x 1) ys → Free marks ys
+free-unset marks x [] without free = tt
+free-unset marks x (y ∷ ys) without free =
+    let other : y ≢ x = λ same. without (let P : ℕ → Type 0 = λ n. Contains (y ∷ ys) n in subst P same (contains-here y ys)) in
+    let before : get_or (set marks x 1) y 0 ≡ get_or marks y 0 = rw get_or-set_other refl in
+    (sym before ∙ free.0, free-unset marks x ys (λ has. without (contains-there x y ys has)) (free.1))
+
+pub fresh-unmarked : (marks xs : List ℕ) → Fresh marks xs → Free marks xs
+fresh-unmarked marks [] fresh = tt
+fresh-unmarked marks (x ∷ xs) fresh =
+    let inside = fresh.0 in
+    (fresh.1, free-unset marks x xs (without (set marks x 1) x xs (rw get_or-set_same refl) (fresh.2)) (fresh-unmarked (set marks x 1) xs (fresh.2)))
+
+pub free-contains : (marks xs : List ℕ) (i : ℕ) → Free marks xs → Contains xs i → get_or marks i 0 ≡ 0
+free-contains marks [] i free has = absurd (contains-none i has)
+free-contains marks (x ∷ xs) i free has = by (contains-cases i x xs has) (free-contains marks xs i (free.1))
+  where
+    by : (x ≡ i) ⊎ Contains xs i → (Contains xs i → get_or marks i 0 ≡ 0) → get_or marks i 0 ≡ 0
+    by (inl same) more = ap (λ n. get_or marks n 0) (sym same) ∙ free.0
+    by (inr there) more = more there
+
 -- the marks of what was marked, and of what was not
+stays-marked : (xs marks : List ℕ) (i : ℕ) → i < length marks → get_or marks i 0 ≡ 1 → get_or (mark_all xs marks) i 0 ≡ 1
+stays-marked [] marks i inside is = is
+stays-marked (x ∷ xs) marks i inside is =
+    let still : get_or (set marks x 1) i 0 ≡ 1 = grind (arith, common_steps) in
+    stays-marked xs (set marks x 1) i (simp length-set inside) still
+
+pub mark_all-marked : (xs marks : List ℕ) (i : ℕ) → i < length marks → Contains xs i → get_or (mark_all xs marks) i 0 ≡ 1
+mark_all-marked [] marks i inside has = absurd (contains-none i has)
+mark_all-marked (x ∷ xs) marks i inside has =
+    by (contains-cases i x xs has) (mark_all-marked xs (set marks x 1) i (simp length-set inside))
+  where
+    by : (x ≡ i) ⊎ Contains xs i → (Contains xs i → get_or (mark_all xs (set marks x 1)) i 0 ≡ 1) → get_or (mark_all xs (set marks x 1)) i 0 ≡ 1
+    by (inl same) more =
+        let one : get_or (set marks x 1) i 0 ≡ 1 = grind (arith, common_steps) in
+        stays-marked xs (set marks x 1) i (simp length-set inside) one
+    by (inr there) more = more there
+
 pub mark_all-none : (xs marks : List ℕ) (i : ℕ) → (Contains xs i → ⊥) → get_or (mark_all xs marks) i 0 ≡ get_or marks i 0
 mark_all-none [] marks i without = refl
 mark_all-none (x ∷ xs) marks i without =

@@ -98,21 +98,21 @@ key_in-some {K} kind used ends entry key = by (nat_lt used ends) refl (is_last e
     by false test false there (Err refusal) is = absurd (let P : ⊥ = cc in P)
 
 -- a record that was reached had no mark
-abbrev marked : ℕ → State → State
+abbrev pub marked : ℕ → State → State
 marked number s = record s { marks = set s.marks number 1; opened = s.opened + 1 }
 
-record IsReached (d : Passed) (left : ℕ) (vcn : ℤ) (s : State) (it : NodeSeen × State) : Type 0 where
-  placed : RecordPlaced
-  lies : wanted d.allocation left false vcn ≡ Ok placed
-  holds : node_in placed ≡ Ok (it.0)
-  free : get_or s.marks placed.number 0 ≡ 0
-  then_is : it.1 ≡ marked placed.number s
+pub record IsReached (d : Passed) (left : ℕ) (vcn : ℤ) (s : State) (it : NodeSeen × State) : Type 0 where
+  pub placed : RecordPlaced
+  pub lies : wanted d.allocation left false vcn ≡ Ok placed
+  pub holds : node_in placed ≡ Ok (it.0)
+  pub free : get_or s.marks placed.number 0 ≡ 0
+  pub then_is : it.1 ≡ marked placed.number s
 
 abbrev it_in : NodeSeen × State → Result (NodeSeen × State) Fault → NodeSeen × State
 it_in other (Ok it) = it
 it_in other (Err its) = other
 
-reached : (d : Passed) (left : ℕ) (vcn : ℤ) (s : State) (it : NodeSeen × State) → reach d left vcn s ≡ Ok it → IsReached d left vcn s it
+pub reached : (d : Passed) (left : ℕ) (vcn : ℤ) (s : State) (it : NodeSeen × State) → reach d left vcn s ≡ Ok it → IsReached d left vcn s it
 unfolding reach
 reached d left vcn s it = at_place (wanted d.allocation left false vcn) refl
   where

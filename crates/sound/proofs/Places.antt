@@ -20,6 +20,10 @@ abbrev pub HasSizes : Option Allocation → Type 0
 HasSizes (Some a) = 0 < a.record_size
 HasSizes None = Unit {0}
 
+-- the least size that is allowed
+pub is_size-least : (most size : ℕ) → is_size most size ≡ true → 512 ≤ size
+is_size-least most size is = grind (arith, common_steps)
+
 record_in-within : (offset size pool number : ℕ) → 0 < size → record_in offset size pool ≡ Ok number → number < pool / size
 unfolding record_in
 record_in-within offset size pool number some = by (nat_eq (offset % size) 0) (nat_lt pool (offset + size)) refl

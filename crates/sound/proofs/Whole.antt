@@ -1,5 +1,5 @@
 -- A whole directory: that it passes exactly if it is sorted, and what becomes of the marks.
-use Rattle.std.proofs.Common.{ℕ, ◌≡◌, ◌+◌, ◌-◌, ◌<◌, ◌≤◌, Bool, true, false, nat_lt, nat_eq, not, List, length, get_or, get_or-drop, drop, replicate, refl, sym}
+use Rattle.std.proofs.Common.{zero, suc, ℕ, ◌≡◌, ◌+◌, ◌-◌, ◌<◌, ◌≤◌, Bool, true, false, nat_lt, nat_eq, not, List, length, get_or, get_or-drop, drop, replicate, refl, sym}
 use Rattle.std.proofs.Common.{◌∙◌, ap, subst, arith, if◌then◌else◌, None, Result, Ok, Err}
 use Rattle.std.specs.Prelude.{Contains}
 use Rattle.std.proofs.lemmas.Grind.{common_steps}
@@ -18,7 +18,7 @@ use Rattle.directory.specs.Node.{Entries, entries_of}
 use Rattle.checker.specs.Check.{State, Checked, cleared, settled, refused_at_once, check_from, check_root, check}
 use Rattle.checker.specs.FileNames.{check_file_names}
 use Rattle.checker.proofs.Laws.{check_entries-node}
-use Rattle.sound.specs.Fit.{number_in, reached}
+use Rattle.sound.specs.Fit.{number_in, reached, Fit}
 use Rattle.sound.specs.Pass.{Passes, Pass, PassFor, PassForAnyKind, Marks, MarksUnchanged, MarksCleared}
 use Rattle.sound.specs.Sorted.{Ready, Sorted, records_of_passed, records_of, reached_root, reached_of, Marked, Cleared}
 use Rattle.sound.specs.Tree.{Leads}
@@ -32,12 +32,12 @@ settled-ok : (records : ℕ) (marks : List ℕ) (r : Result State Fault) (count 
 settled-ok records marks (Ok s) count ok = (s, refl)
 settled-ok records marks (Err its) count ok = absurd (let P : ⊥ = cc in P)
 
-settled-broken : (records : ℕ) (marks : List ℕ) (r : Result State Fault) (its : Fault) → (settled records marks r).verdict ≡ Err its
+pub settled-broken : (records : ℕ) (marks : List ℕ) (r : Result State Fault) (its : Fault) → (settled records marks r).verdict ≡ Err its
     → (settled records marks r).marks ≡ cleared records marks
 settled-broken records marks (Ok s) its broken = absurd (let P : ⊥ = cc in P)
 settled-broken records marks (Err other) its broken = refl
 
-length-cleared : (most : ℕ) (marks : List ℕ) → most ≤ length marks → length (cleared most marks) ≡ length marks
+pub length-cleared : (most : ℕ) (marks : List ℕ) → most ≤ length marks → length (cleared most marks) ≡ length marks
 length-cleared most marks room = grind (arith, common_steps)
 
 cleared-zero : (most : ℕ) (marks : List ℕ) (at : ℕ) → at < most → get_or (cleared most marks) at 0 ≡ 0
@@ -54,6 +54,25 @@ node-within d sizes entry node leads =
     let made = subnode-made d 1 entry node leads in
     let low = wanted-within d.allocation 1 false (made.vcn) (made.placed) sizes (made.lies) in
     let same = made.number in omega arith
+
+-- the records of a tree are below the record count, and so are those reached
+module _ (d : Passed) {K : Type 0} (kind : Kind K) (sizes : HasSizes d.allocation) where
+  pub records-below : {left used at : ℕ} {es : Entries} (t : WellTree d kind left used at es) → AllBelow (records_in d.allocation) (records t)
+  records-below (end_here left used at entry rest last ends alone) = tt
+  records-below (end_below left used at entry rest last ends node leads below) = (node-within d sizes entry.bytes node leads, records-below below)
+  records-below (name_here left used at entry rest name its ends alone more) = records-below more
+  records-below (name_below left used at entry rest name its ends node leads below more) = (
+    node-within d sizes entry.bytes node leads,
+    below-append (records_in d.allocation) (records below) (records more) (records-below below) (records-below more),
+  )
+
+  pub reached-below : (levels : ℕ) (node : NodeSeen) → Fit d kind levels node → AllBelow (records_in d.allocation) (reached d levels node)
+  unfolding reached
+  reached-below zero node fit = tt
+  reached-below (suc left) node fit =
+      let its = fit-tree d kind left node fit in
+      let P : List ℕ → Type 0 = AllBelow (records_in d.allocation) in
+      subst P (sym (tree-reached d kind (its.tree))) (records-below (its.tree))
 
 module _ (lent : Lent) {K : Type 0} (kind : Kind K) (marks : List ℕ) where
   abbrev begun : Passed → State
@@ -99,6 +118,15 @@ module _ (lent : Lent) {K : Type 0} (kind : Kind K) (marks : List ℕ) where
   unfolding check
   check-ready count ok = root-ready (passed lent) count refl ok
 
+  -- on a later fault the marks are the cleared ones
+  pub check-broken : (ready : Ready lent marks) (its : Fault) → (check lent kind marks).verdict ≡ Err its
+      → (check lent kind marks).marks ≡ cleared (records_in ready.d.allocation) marks
+  check-broken ready its broken =
+      let d = ready.d in
+      let is = check-walk d (ready.no_1_to_7) (ready.no_21) in
+      ap (λ (c : Checked). c.marks) is
+      ∙ settled-broken (records_in d.allocation) marks (walk d) its (sym (ap (λ (c : Checked). c.verdict) is) ∙ broken)
+
   ready-sound : (ready : Ready lent marks) (count : ℕ) → (check lent kind marks).verdict ≡ Ok count → IsSound lent kind
   unfolding check_from
   ready-sound ready count ok =
@@ -111,17 +139,6 @@ module _ (lent : Lent) {K : Type 0} (kind : Kind K) (marks : List ℕ) where
       (begun d) (its.0) (omega arith)
       (sym (check_entries-node kind d below_root (root_node d).end (root_node d).start (entries_of (root_node d)) (begun d)) ∙ its.1) in
       record { d = d; opens = ready.no_1_to_7; tree = all.tree; once = no_repeat (cleared most marks) (records (all.tree)) (all.fresh); rises = all.rises }
-
-  records-below : (d : Passed) → HasSizes d.allocation → {left used at : ℕ} {es : Entries} (t : WellTree d kind left used at es)
-      → AllBelow (records_in d.allocation) (records t)
-  records-below d sizes (end_here left used at entry rest last ends alone) = tt
-  records-below d sizes (end_below left used at entry rest last ends node leads below) =
-      (node-within d sizes entry.bytes node leads, records-below d sizes below)
-  records-below d sizes (name_here left used at entry rest name its ends alone more) = records-below d sizes more
-  records-below d sizes (name_below left used at entry rest name its ends node leads below more) = (
-    node-within d sizes entry.bytes node leads,
-    below-append (records_in d.allocation) (records below) (records more) (records-below d sizes below) (records-below d sizes more),
-  )
 
   abbrev marks_of : (sound : IsSound lent kind) → List ℕ
   marks_of sound = mark_all (records (sound.tree)) (cleared (records_in sound.d.allocation) marks)
@@ -136,7 +153,7 @@ module _ (lent : Lent) {K : Type 0} (kind : Kind K) (marks : List ℕ) where
       let most = records_in d.allocation in
       let long = length-cleared most marks room in
       let fresh = fresh-from most (cleared most marks) (records t) (omega arith) (cleared-zero most marks)
-      (records-below d (passed-sizes lent d (sound.opens)) t) (sound.once) in
+      (records-below d kind (passed-sizes lent d (sound.opens)) t) (sound.once) in
       let its = passes d kind t (begun d) (sound.rises) fresh in
       let count : its.after.opened ≡ length (records t) = its.opened ∙ omega arith in
       check-walk d (sound.opens) room
@@ -183,7 +200,7 @@ module _ (lent : Lent) {K : Type 0} (kind : Kind K) (marks : List ℕ) where
       let same = sound-reached sound in
       let all = ready-records d (sound.opens) in
       let long = length-cleared most marks room in
-      let below = records-below d (passed-sizes lent d (sound.opens)) (sound.tree) in
+      let below = records-below d kind (passed-sizes lent d (sound.opens)) (sound.tree) in
       let its : (i : ℕ) → Contains (reached_of lent) i → Contains xs i = λ i has. let P : List ℕ → Type 0 = λ l. Contains l i in subst P same has in
       let back : (i : ℕ) → Contains xs i → Contains (reached_of lent) i = λ i has. let P : List ℕ → Type 0 = λ l. Contains l i in subst P (sym same) has in
       record {
