@@ -7,5 +7,6 @@ pub mod Listing
 pub mod Lookup
 pub mod Nodes
 pub mod Places
+pub mod Roots
 pub mod Totals
 pub mod Units

@@ -26,7 +26,7 @@ use Rattle.c_api.proofs.Places.{are_at-cut, is-of}
 use Rattle.c_api_claims.specs.Places.{span_at, place_span, told_words}
 use Rattle.claims.specs.Nodes.{RecordInPool, OneVcn, held_by, IsNode, IsItsPlace, IsViewed}
 
-record_in-lies : (offset size len r : ℕ) → record_in offset size len ≡ Ok r → (r * size ≡ offset) × (offset + size ≤ len)
+pub record_in-lies : (offset size len r : ℕ) → record_in offset size len ≡ Ok r → (r * size ≡ offset) × (offset + size ≤ len)
 unfolding record_in
 record_in-lies offset size len r is =
     let divided = mod-add-div' offset size in
@@ -34,7 +34,7 @@ record_in-lies offset size len r is =
     let same : r ≡ offset / size = grind (arith, common_steps) in
     (rw same (omega (arith, divided, whole)), grind (arith, common_steps))
 
-record_at-lies : (n cluster size len r : ℕ) → record_at (pos n) cluster size len ≡ Ok r → (0 < cluster) × (r * size ≡ n * cluster) × (n * cluster + size ≤ len)
+pub record_at-lies : (n cluster size len r : ℕ) → record_at (pos n) cluster size len ≡ Ok r → (0 < cluster) × (r * size ≡ n * cluster) × (n * cluster + size ≤ len)
 unfolding record_at block_of
 record_at-lies n cluster size len r is =
     let inside : record_in (n * cluster) size len ≡ Ok r = grind (arith, common_steps) in

@@ -52,22 +52,15 @@ module _ {K : Type 0} (order : K → K → Ordering) (total : Total order) where
     congr = alike;
   }
 
-module _ {K : Type 0} (order : K → K → Ordering) (total : IsTotalOrder order) where
+-- an order that exchange turns and that is transitive is total
+module _ {K : Type 0} (order : K → K → Ordering) (exchange : (a b : K) → order b a ≡ ordering_reverse (order a b)) where
   back : (a b : K) (r : Ordering) → order a b ≡ r → order b a ≡ ordering_reverse r
-  back a b r is = total.antisymm b a ∙ ap ordering_reverse is
+  back a b r is = exchange a b ∙ ap ordering_reverse is
 
   itself : (r : Ordering) → r ≡ ordering_reverse r → r ≡ Equal
   itself Less is = absurd (let P : ⊥ = cc in P)
   itself Equal is = refl
   itself Greater is = absurd (let P : ⊥ = cc in P)
-
-  through : (a b c : K) → NotLess order a b → NotLess order b c → NotLess order a c
-  through a b c low high less = by (order b a) refl
-    where
-      by : (r : Ordering) → order b a ≡ r → ⊥
-      by Less is = low is
-      by Equal is = high (back b c Greater (total.congr b a c is ∙ back c a Less less))
-      by Greater is = high (total.trans c a b less (back b a Greater is))
 
   either : (a b : K) → NotLess order a b ⊎ NotLess order b a
   either a b = by (order b a) refl
@@ -77,10 +70,20 @@ module _ {K : Type 0} (order : K → K → Ordering) (total : IsTotalOrder order
       by Equal is = inl (λ less. let both = sym is ∙ less in cc)
       by Greater is = inl (λ less. let both = sym is ∙ less in cc)
 
+  pub total_of : ((a b c : K) → NotLess order a b → NotLess order b c → NotLess order a c) → Total order
+  total_of through = record { reflexive = λ a. itself (order a a) (exchange a a); transitive = through; connected = either; exchange = exchange }
+
+module _ {K : Type 0} (order : K → K → Ordering) (total : IsTotalOrder order) where
+  exchanges : (a b : K) → order b a ≡ ordering_reverse (order a b)
+  exchanges a b = total.antisymm b a
+
+  through : (a b c : K) → NotLess order a b → NotLess order b c → NotLess order a c
+  through a b c low high less = by (order b a) refl
+    where
+      by : (r : Ordering) → order b a ≡ r → ⊥
+      by Less is = low is
+      by Equal is = high (back order exchanges b c Greater (total.congr b a c is ∙ back order exchanges c a Less less))
+      by Greater is = high (total.trans c a b less (back order exchanges b a Greater is))
+
   pub total-laws : Total order
-  total-laws = record {
-    reflexive = λ a. itself (order a a) (total.antisymm a a);
-    transitive = through;
-    connected = either;
-    exchange = λ a b. total.antisymm b a;
-  }
+  total-laws = total_of order exchanges through
