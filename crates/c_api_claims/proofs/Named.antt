@@ -13,7 +13,7 @@ use Rattle.c_api.proofs.Names.{named, name-units}
 use Rattle.c_api.proofs.Places.{are_at-cut, are_at-part, entry-is_at}
 use Rattle.c_api_claims.specs.Words.{EntryNameNames, TellsName}
 
-key-is_at : (entry key : List ℕ) → key_of entry ≡ Ok (Some key) → AreAt entry 16 key
+pub key-is_at : (entry key : List ℕ) → key_of entry ≡ Ok (Some key) → AreAt entry 16 key
 unfolding key_of
 key-is_at entry key = by (nat_eq (key_length_of entry) 0) (is_last entry) (nat_lt (length entry) (16 + key_length_of entry)) refl
   where

@@ -116,7 +116,7 @@ none-whole : (o : ℕ) (kept : Option Refusal) → Whole (cursor_of [] o kept)
 unfolding slots_of
 none-whole o kept = record { eight = refl; vcns = λ i. rw (blanks level_limit i) tt }
 
-new-whole : Whole new_cursor
+pub new-whole : Whole new_cursor
 unfolding slots_of
 new-whole = record { eight = refl; vcns = set-holds (replicate level_limit blank) 0 blank tt (λ i. rw (blanks level_limit i) tt) }
 
