@@ -98,6 +98,7 @@ use Rattle.index_node.proofs.open_root.Reads as open-root
 use Rattle.index_node.proofs.open_node.Reads as open-node
 use Rattle.index_node.proofs.open_record.Reads as open-record
 use Rattle.index_node.proofs.node_bytes.Reads as named-node-bytes
+use Rattle.index_node.proofs.node_start.Reads as node-start
 use Rattle.index_node.proofs.place_bytes.Reads as place-bytes
 use Rattle.index_node.proofs.entry_bytes.Reads as entry-bytes
 use Rattle.index_node.proofs.key_bytes.Reads as key-bytes
@@ -432,6 +433,9 @@ one_open_record l a x y s t = same
 
 pub one_named_node_bytes : Coincide named-node-bytes.Post (λ l x. x.now)
 one_named_node_bytes l a x y s t = same
+
+pub one_node_start : Coincide node-start.Post (λ l x. x)
+one_node_start l a x y s t = same
 
 pub one_place_bytes : Coincide place-bytes.Post (λ l x. x.now)
 one_place_bytes l a x y s t = same

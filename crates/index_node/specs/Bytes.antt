@@ -1,7 +1,8 @@
 -- The bytes that a place names: a part of the root or of the pool, and none where it names none.
-use Rattle.std.specs.Prelude.{ℕ, ◌+◌, nat_le, List, [], length, take, drop, if◌then◌else◌, Option, Some, None, Result, Ok, Err}
+use Rattle.std.specs.Prelude.{ℕ, ◌+◌, ◌*◌, nat_le, List, [], length, take, drop, if◌then◌else◌, Option, Some, None, Result, Ok, Err}
 use Rattle.refusal.specs.declared.Refusal.{Refusal}
-use Rattle.index_allocation.specs.Allocation.{RecordPlaced}
+use Rattle.index_root.specs.Root.{record_size_of}
+use Rattle.index_allocation.specs.Allocation.{RecordPlaced, record_at}
 use Rattle.directory.specs.Lent.{Lent}
 use Rattle.index.specs.declared.cursor.NodeName.{NodeName}
 use Rattle.index.specs.declared.cursor.NodeName.TheVariants as names
@@ -19,6 +20,16 @@ holder d (names.Record vcn) = d.pool
 -- a node's bytes, by where they lie in what holds it
 unfoldable pub view_bytes : Lent → NodeName → (from size : ℕ) → List ℕ
 view_bytes d node from size = part_of (holder d node) from size
+
+-- where a record begins in the pool
+abbrev pub start_numbered : (size : ℕ) → Result ℕ Refusal → ℕ
+start_numbered size (Ok number) = number * size
+start_numbered size (Err refusal) = 0
+
+-- where a node begins in what holds it; 0 at a VCN that leads nowhere
+unfoldable pub node_start : Lent → NodeName → ℕ
+node_start d names.Root = 0
+node_start d (names.Record vcn) = start_numbered (record_size_of d.root) (record_at vcn d.cluster_size (record_size_of d.root) (length d.pool))
 
 -- the bytes of a record; at a VCN that leads nowhere there are none
 abbrev pub bytes_placed : Result RecordPlaced Refusal → List ℕ

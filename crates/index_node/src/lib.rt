@@ -8,7 +8,7 @@ ghost use Rattle.index_allocation.specs.IndexAllocation.{found};
 ghost use Rattle.directory.specs.Directory.{spent_at};
 ghost use Rattle.directory.specs.Seen.{lent, read};
 ghost use Rattle.index_node.specs.Node.{pool_judged, root_in, record_placed, view_of, opened_node};
-ghost use Rattle.index_node.specs.Bytes.{part_of, view_bytes, node_bytes, place_bytes, bytes_of, key_bytes_of};
+ghost use Rattle.index_node.specs.Bytes.{part_of, view_bytes, node_bytes, node_start, place_bytes, bytes_of, key_bytes_of};
 
 use directory::{Directory, Node};
 use index::NodeName;
@@ -128,6 +128,21 @@ pub fn node_bytes<'a>(
     match node {
         NodeName::Root => part(directory.root, from, size),
         NodeName::Record(_) => part(directory.pool, from, size),
+    }
+}
+
+/// Where a node begins in what holds it, the root or the pool; 0 at a VCN that leads nowhere.
+#[tactic(auto, unfolding(crate::specs::Bytes::node_start))]
+pub fn node_start(directory: &Directory<'_>, node: NodeName) -> usize
+    ensures { result ≡ node_start (lent directory.now) node }
+{
+    let NodeName::Record(vcn) = node else {
+        return 0;
+    };
+    let size = index_record_size(directory.root);
+    match record_from_vcn(vcn, directory.cluster_size, size, directory.pool.len()) {
+        Ok(number) => number * size,
+        Err(_) => 0,
     }
 }
 

@@ -2,7 +2,7 @@
 use directory::{Answer, Directory, Place};
 use index::{Cursor, NodeName};
 use index_allocation::block_number;
-use index_node::open_node;
+use index_node::{node_start, open_node};
 use refusal::{Fault, Refusal};
 use std::io;
 use std::io::Write;
@@ -15,17 +15,14 @@ fn write_refusal<W: Write>(writer: &mut W, refusal: Refusal) -> io::Result<()> {
 pub(crate) fn write_node<W: Write>(
     writer: &mut W,
     directory: &Directory<'_>,
-    node: NodeName,
+    name: NodeName,
 ) -> io::Result<()> {
-    let node = match open_node(directory, node) {
+    let node = match open_node(directory, name) {
         Ok(node) => node,
         Err(refusal) => return write_refusal(writer, refusal),
     };
     let size = node.bytes.len();
-    let from = match node.place {
-        Place::Root => 0,
-        Place::Record { number, vcn: _ } => number.saturating_mul(size),
-    };
+    let from = node_start(directory, name);
     write!(
         writer,
         "start {} used {} of {size} at {from}",

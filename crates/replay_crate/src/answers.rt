@@ -1,9 +1,9 @@
 //! The answers of listings and lookups, as a case's line shows them.
 use directory::{Answer, Directory, Place, PlacedEntry};
 use file_name::FileName;
-use index::Cursor;
+use index::{Cursor, NodeName};
 use index_entry::IndexEntry;
-use index_root::index_record_size;
+use index_node::node_start;
 use refusal::Fault;
 use std::io::Write;
 use std::{fmt, io};
@@ -78,16 +78,11 @@ struct Location<'a> {
 impl fmt::Display for Location<'_> {
     fn fmt<W: fmt::Write>(&self, f: &mut fmt::Formatter<W>) -> fmt::Result {
         let placed = self.placed;
-        let (slice, from) = match placed.node {
-            Place::Root => ("root", 0),
-            Place::Record { number, vcn: _ } => {
-                (
-                    "pool",
-                    number.saturating_mul(index_record_size(self.directory.root)),
-                )
-            }
+        let (slice, node) = match placed.node {
+            Place::Root => ("root", NodeName::Root),
+            Place::Record { vcn, .. } => ("pool", NodeName::Record(vcn)),
         };
-        let at = from.saturating_add(placed.at);
+        let at = node_start(&self.directory, node).saturating_add(placed.at);
         write!(f, "{slice}:{at}:{}", placed.entry.bytes.len())
     }
 }
