@@ -1,6 +1,7 @@
 //! The lines of a capture's listing.
 #![tactic(auto)]
 
+mod bytes;
 mod parts;
 
 ghost use Rattle.std.specs.Prelude.{◌≡◌, ◌≤◌, Some, length, get_or, IfSome};
@@ -9,7 +10,10 @@ ghost use Rattle.index_entry.specs.IndexEntry.{entry_bytes};
 ghost use Rattle.file_name.specs.Key.{name_of};
 ghost use Rattle.capture_line.specs.Text.{named_text, key_text, key_part_text, line_of, opened_line, refused_line, closing_line};
 
-use crate::parts::{NEWLINE, SPACE, push_all, push_byte, push_ended, push_name, push_number};
+use crate::bytes::{byte_at, byte_behind};
+use crate::parts::{
+    NEWLINE, SPACE, push_all, push_byte, push_ended, push_name, push_number, push_reference,
+};
 use arrayvec::ArrayVec;
 use file_name::FileName;
 use index_entry::IndexEntry;
@@ -48,10 +52,7 @@ impl Line<'_> {
     {
         let mut text = ArrayVec::new();
         let file = self.entry.file_reference();
-        push_number(&mut text, file.file_record_number());
-        push_byte(&mut text, SPACE);
-        push_number(&mut text, u64::from(file.sequence_number()));
-        push_byte(&mut text, SPACE);
+        push_reference(&mut text, file);
         push_name(&mut text, name_of(&self.entry));
         push_byte(&mut text, NEWLINE);
         text
@@ -115,7 +116,19 @@ pub fn line_byte(entry: &[u8], i: usize) -> u8
     ensures { result ≡ get_or (line_of entry.now) i 0 }
 {
     let entry = IndexEntry { bytes: entry };
-    byte_at(Line { entry }.bytes().as_slice(), i)
+    let mut head = ArrayVec::new();
+    push_reference(&mut head, entry.file_reference());
+    match name_of(&entry) {
+        Some(name) => {
+            push_number(&mut head, name.namespace as u64);
+            push_byte(&mut head, SPACE);
+            byte_behind(head.as_slice(), name.units, i)
+        }
+        None => {
+            push_all(&mut head, b"- -\n");
+            byte_at(head.as_slice(), i)
+        }
+    }
 }
 
 /// How long the line `opened` is.
@@ -144,11 +157,4 @@ pub fn refused_byte(refusal: Refusal, i: usize) -> u8
     ensures { result ≡ get_or (refused_line refusal) i 0 }
 {
     byte_at(Closing(Err(refusal)).bytes().as_slice(), i)
-}
-
-/// The byte at `i`; past the end 0.
-fn byte_at(bytes: &[u8], i: usize) -> u8
-    ensures { result ≡ get_or bytes.now i 0 }
-{
-    bytes.get(i).copied().unwrap_or(0)
 }

@@ -3,10 +3,12 @@ ghost use Rattle.std.specs.Prelude.{◌≡◌, ◌≤◌, ◌+◌, ◌*◌, [], 
 ghost use Rattle.std.specs.Fmt.{decimal};
 ghost use Rattle.std.specs.List.{concat};
 ghost use Rattle.arrayvec.specs.ArrayVec.{array_vec_len};
-ghost use Rattle.capture_line.specs.Text.{ended, hex_digit, hex_pair, hex_pairs, name_text, named_text};
+ghost use Rattle.file_reference.specs.Reference.{record_number_of, sequence_of};
+ghost use Rattle.capture_line.specs.Text.{ended, spaced, hex_digit, hex_pair, hex_pairs, name_text, named_text};
 
 use crate::Text;
 use file_name::FileName;
+use file_reference::FileReference;
 
 pub(crate) const SPACE: u8 = b' ';
 
@@ -64,6 +66,18 @@ fn push_digits(text: &mut Text, n: u64)
     }
 }
 
+/// Puts a record number and a sequence behind the text, with a space behind each.
+pub(crate) fn push_reference(text: &mut Text, file: FileReference)
+    requires { array_vec_len text.old + 42 ≤ 1084 }
+    ensures text { text.new.items ≡ text.old.items ++ decimal (record_number_of file) ++ spaced (decimal (sequence_of file) ++ 32 ∷ []) }
+    ensures long { array_vec_len text.new ≤ array_vec_len text.old + 42 }
+{
+    push_number(text, file.file_record_number());
+    push_byte(text, SPACE);
+    push_number(text, u64::from(file.sequence_number()));
+    push_byte(text, SPACE);
+}
+
 /// An upper-case hex digit.
 fn hex_digit(digit: u8) -> u8
     requires { digit < 16 }
@@ -76,20 +90,17 @@ fn hex_digit(digit: u8) -> u8
     }
 }
 
-/// Puts a unit behind the text, as four hex digits. Its low byte stands first in the pair.
-fn push_unit(text: &mut Text, unit: [u8; 2])
-    requires { array_vec_len text.old + 4 ≤ 1084 }
-    ensures text { text.new.items ≡ text.old.items ++ hex_pair unit }
-    ensures long { array_vec_len text.new ≡ array_vec_len text.old + 4 }
+/// A unit as four hex digits. Its low byte stands first in the pair.
+pub(crate) fn hex_digits(unit: [u8; 2]) -> [u8; 4]
+    ensures { result ≡ hex_pair unit }
 {
     let [low, high] = unit;
-    let digits = [
+    [
         hex_digit(high / 16),
         hex_digit(high % 16),
         hex_digit(low / 16),
         hex_digit(low % 16),
-    ];
-    push_all(text, &digits);
+    ]
 }
 
 /// Puts units behind the text, without gaps.
@@ -99,7 +110,7 @@ fn push_units(text: &mut Text, units: &[[u8; 2]])
     ensures long { array_vec_len text.new ≡ array_vec_len text.old + 4 * length units.now }
 {
     for unit in units {
-        push_unit(text, *unit);
+        push_all(text, &hex_digits(*unit));
     }
 }
 
