@@ -6,7 +6,7 @@ use refusal::Refusal;
 use replay_cases::MadeTable;
 use std::cmp::Ordering;
 use std::fmt;
-use upcase_table::{LeUnits, UpcaseTable, compare};
+use upcase_table::{LeUnits, UpcaseTable, compare_by_place};
 
 /// An answer, as its line shows it.
 #[derive(Clone, Copy)]
@@ -83,7 +83,7 @@ fn table_t() -> [u16; 65536] {
 /// A sought name against a name in a key's bytes.
 fn compared(table: &[u16], name: &[u16], other: &[u8]) -> Shown<Result<Ordering, Refusal>> {
     match UpcaseTable::try_from(table) {
-        Ok(table) => Shown(Ok(compare(&table, name, LeUnits::new(other)))),
+        Ok(table) => Shown(Ok(compare_by_place(&table, name, LeUnits::new(other)))),
         Err(refusal) => Shown(Err(refusal)),
     }
 }

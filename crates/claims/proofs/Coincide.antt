@@ -58,6 +58,7 @@ use Rattle.file_name.proofs.name.Reads as name-reads
 use Rattle.upcase_table.proofs.LeUnits.new.Reads as le-units
 use Rattle.upcase_table.proofs.upcase_table.UpcaseTableTryFromRefSliceU16.try_from.Reads as upcase-table
 use Rattle.upcase_table.proofs.compare.Reads as compare-reads
+use Rattle.upcase_table.proofs.compare_by_place.Reads as compare-by-place
 use Rattle.upcase_table.proofs.upcase_cmp.Reads as upcase-cmp
 use Rattle.upcase_table.proofs.upcase_cmp_keys.Reads as upcase-cmp-keys
 use Rattle.upcase_table.proofs.Upcase.upcase.Reads as upcase-reads
@@ -104,8 +105,8 @@ use Rattle.index_node.proofs.entry_bytes.Reads as entry-bytes
 use Rattle.index_node.proofs.key_bytes.Reads as key-bytes
 use Rattle.checker.proofs.check.Reads as check-reads
 use Rattle.checker.proofs.check_file_names.Reads as check-file-names
-use Rattle.upcase_table.proofs.Units.unit_count.Reads as unit-count
-use Rattle.upcase_table.proofs.Units.unit_at.Reads as unit-at
+use Rattle.upcase_table.proofs.UnitsByPlace.unit_count.Reads as unit-count
+use Rattle.upcase_table.proofs.UnitsByPlace.unit_at.Reads as unit-at
 use Rattle.upcase_table.proofs.Units.next_unit.Reads as next-unit
 use Rattle.directory.proofs.node.NodeEntriesIterator.next.Reads as next-entry
 use Rattle.capture.proofs.parse.Reads as parse
@@ -307,6 +308,11 @@ pub one_compare : (C : _) (S : _) (R : _) (a1 : _) (a2 : _) (a3 : _) (a4 : _) (a
     → Coincide (compare-reads.Post C S R a1 a2 a3 a4 a5 a6 a7 a8 a9 a10 a11) (λ l x. x)
 one_compare C S R a1 a2 a3 a4 a5 a6 a7 a8 a9 a10 a11 l a x y s t = same
 
+pub one_compare_by_place : (C : _) (S : _) (R : _) (a1 : _) (a2 : _) (a3 : _) (a4 : _) (a5 : _) (a6 : _) (a7 : _) (a8 : _) (a9 : _) (a10 : _) (a11 : _) (a12 : _) (a13 : _)
+    (a14 : _) (a15 : _)
+    → Coincide (compare-by-place.Post C S R a1 a2 a3 a4 a5 a6 a7 a8 a9 a10 a11 a12 a13 a14 a15) (λ l x. x)
+one_compare_by_place C S R a1 a2 a3 a4 a5 a6 a7 a8 a9 a10 a11 a12 a13 a14 a15 l a x y s t = same
+
 pub one_upcase_cmp : Coincide upcase-cmp.Post (λ l x. x)
 one_upcase_cmp l a x y s t = same
 
@@ -459,11 +465,11 @@ one_check_file_names l a x y s t p q = ap (λ its. its.verdict) (same p q)
 pub one_check_file_names_marks : LeavesOne check-file-names.Post (λ l s. s.1.1.0.now)
 one_check_file_names_marks l a x y s t p q = ap (λ its. its.marks) (same p q)
 
-pub one_unit_count : (C : _) (a1 : _) (a2 : _) (a3 : _) (a4 : _) → Coincide (unit-count.Post C a1 a2 a3 a4) (λ l x. x)
-one_unit_count C a1 a2 a3 a4 l a x y s t = same
+pub one_unit_count : (C : _) (a1 : _) (a2 : _) (a3 : _) (a4 : _) (a5 : _) (a6 : _) → Coincide (unit-count.Post C a1 a2 a3 a4 a5 a6) (λ l x. x)
+one_unit_count C a1 a2 a3 a4 a5 a6 l a x y s t = same
 
-pub one_unit_at : (C : _) (a1 : _) (a2 : _) (a3 : _) (a4 : _) → Coincide (unit-at.Post C a1 a2 a3 a4) (λ l x. x)
-one_unit_at C a1 a2 a3 a4 l a x y s t = same
+pub one_unit_at : (C : _) (a1 : _) (a2 : _) (a3 : _) (a4 : _) (a5 : _) (a6 : _) → Coincide (unit-at.Post C a1 a2 a3 a4 a5 a6) (λ l x. x)
+one_unit_at C a1 a2 a3 a4 a5 a6 l a x y s t = same
 
 pub one_next_unit : (C : _) (a1 : _) (a2 : _) (a3 : _) (a4 : _) → Coincide (next-unit.Post C a1 a2 a3 a4) (λ l x. x)
 one_next_unit C a1 a2 a3 a4 l a x y s t p q = itself x y (first-one (λ it. it) a2.units a.0.now x y s.0.now t.0.now p q).0

@@ -4,7 +4,7 @@ use crate::collation::Collation;
 use file_name::FileName;
 use refusal::Refusal;
 use std::cmp::Ordering;
-use upcase_table::{LeUnits, Upcase, compare};
+use upcase_table::{LeUnits, Upcase, compare_by_place};
 
 /// The longest name, in units.
 const MOST_UNITS: usize = 255;
@@ -51,7 +51,7 @@ impl<'a, T: Upcase> Collation for FileNames<'a, T> {
 
     fn compare_sought(&self, sought: SoughtName<'a>, key: &[u8]) -> Result<Ordering, Refusal> {
         let name = FileName::try_from(key)?;
-        Ok(compare(self.table, sought.units, LeUnits::new(name.units)))
+        Ok(compare_by_place(self.table, sought.units, LeUnits::new(name.units)))
     }
 
     fn check_key(&self, key: &[u8]) -> Result<(), Refusal> {
@@ -62,7 +62,7 @@ impl<'a, T: Upcase> Collation for FileNames<'a, T> {
     fn compare_keys(&self, key: &[u8], other: &[u8]) -> Result<Ordering, Refusal> {
         let name = FileName::try_from(key)?;
         let other = FileName::try_from(other)?;
-        Ok(compare(
+        Ok(compare_by_place(
             self.table,
             LeUnits::new(name.units),
             LeUnits::new(other.units),

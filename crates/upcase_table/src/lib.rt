@@ -4,21 +4,29 @@
 ghost use Rattle.std.specs.Prelude.{◌≡◌};
 ghost use Rattle.upcase_table.specs.Names.{units_of, name_order, compared_names};
 
+mod in_turn;
+#[cfg(test)]
+mod tests;
 mod units;
 mod upcase;
 mod upcase_table;
 
+pub use in_turn::compare;
 use refusal::Refusal;
 use std::cmp::Ordering;
-pub use units::{LeUnits, Units};
+pub use units::{LeUnits, Units, UnitsByPlace};
 pub use upcase::Upcase;
 pub use upcase_table::UpcaseTable;
 
 #[tactic(auto, using(crate::proofs::Orders::of_names))]
-/// How two names stand to each other. Each unit is mapped once.
+/// What `compare` answers, of names whose units are told by their place too: a turn tests no more than two units and the end.
 // Its loop is the time of a lookup or check. By itself it is laid on a boundary of 16 bytes; inside its callers it is not, and can take half as long again.
 #[inline(never)]
-pub fn compare<T: Upcase, A: Units, B: Units>(table: &T, ours: A, theirs: B) -> Ordering
+pub fn compare_by_place<T: Upcase, A: UnitsByPlace, B: UnitsByPlace>(
+    table: &T,
+    ours: A,
+    theirs: B,
+) -> Ordering
     ensures { result ≡ name_order (T.mapped table.now) (A.units ours) (B.units theirs) }
 {
     let our_count = ours.unit_count();
@@ -34,11 +42,15 @@ pub fn compare<T: Upcase, A: Units, B: Units>(table: &T, ours: A, theirs: B) -> 
 }
 
 /// The same under a table that is lent as it is; 19 if it has another length.
-fn compare_under<A: Units, B: Units>(table: &[u16], ours: A, theirs: B) -> Result<Ordering, Refusal>
+fn compare_under<A: UnitsByPlace, B: UnitsByPlace>(
+    table: &[u16],
+    ours: A,
+    theirs: B,
+) -> Result<Ordering, Refusal>
     ensures { result ≡ compared_names table.now (A.units ours) (B.units theirs) }
 {
     let table = UpcaseTable::try_from(table)?;
-    Ok(compare(&table, ours, theirs))
+    Ok(compare_by_place(&table, ours, theirs))
 }
 
 /// A sought name, lent as units, against a name in a key's bytes.
