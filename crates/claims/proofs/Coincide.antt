@@ -569,7 +569,7 @@ pub one_set_up_memory : LeavesOne set-up.Post (λ l s. s.0.now.memory.now)
 one_set_up_memory l a x y s t p q = same p.0 q.0
 
 pub one_set_up_table : LeavesOne set-up.Post (λ l s. s.0.now.table.now)
-one_set_up_table l a x y s t p q = same p.1 q.1
+one_set_up_table l a x y s t p q = same p.1.0 q.1.0
 
 pub one_fixture_root : Coincide fixture-directory.Post (λ l x. x.root.now)
 one_fixture_root l a x y s t p q = same p.0 q.0

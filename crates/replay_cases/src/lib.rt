@@ -7,6 +7,8 @@ mod lent;
 mod lossy;
 mod number;
 mod read;
+#[cfg(test)]
+mod tests;
 
 pub use cases::{Case, Cases, LONGEST_BODY, LONGEST_INPUT, MOST_CASES};
 pub use fixture::{Fixture, MadeTable, Setup, UnknownSetup};
