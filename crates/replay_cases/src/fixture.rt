@@ -102,7 +102,8 @@ fn write_units(table: &mut [u16], from: usize, bytes: &[u8])
 }
 
 impl Fixture<'_> {
-    /// Changes what is lent as a case says that holds these bytes. It stays what it was lent: its lender has it so when the loan ends.
+    /// Changes what is lent as a case says that holds these bytes. Memory and table stay those that were lent, so that their lender has them
+    /// changed when the loan ends.
     pub fn set_up(&mut self, setup: Setup, bytes: &[u8])
         ensures memory { self.new.memory.now ≡ memory_after setup bytes.now self.old.memory.now }
         ensures table { self.new.table.now ≡ table_after setup bytes.now self.old.table.now }

@@ -19,7 +19,7 @@ pub use upcase::Upcase;
 pub use upcase_table::UpcaseTable;
 
 #[tactic(auto, using(crate::proofs::Orders::of_names))]
-/// What `compare` answers, of names whose units are told by their place too: a turn tests no more than two units and the end.
+/// How two names stand to each other that tell their units by place too. Each unit is mapped once. It answers what `compare` does, in less time.
 // Its loop is the time of a lookup or check. By itself it is laid on a boundary of 16 bytes; inside its callers it is not, and can take half as long again.
 #[inline(never)]
 pub fn compare_by_place<T: Upcase, A: UnitsByPlace, B: UnitsByPlace>(
