@@ -1,5 +1,5 @@
 -- The promises of the leaves.
-use Rattle.std.proofs.Common.{ℕ, ◌≡◌, ◌+◌, ◌*◌, ◌≤◌, ◌<◌, List, length, slice_index, refl, sym, ◌∙◌, ap, arith, nat_le, true}
+use Rattle.std.proofs.Common.{ℕ, ◌≡◌, ◌+◌, ◌*◌, ◌≤◌, ◌<◌, List, length, slice_index, refl, arith, nat_le, true}
 use Rattle.std.proofs.lemmas.Grind.{common_steps}
 use Rattle.std.proofs.Math.Arith.{digits_div, digits_mod}
 use Rattle.le.specs.Le.{bytes_at, le_at}
